@@ -1,0 +1,44 @@
+-- `leb128::writer::write_number` meets its contract: each return is a case of `placed`.
+use native.Mathlib.Omega.{arith}
+use Rattle.leb128.proofs.laws.Writing.{no-form, no-room, next-place}
+use denote.Ref.{now}
+use borrow.Author.Needs.{needs}
+use Rattle.leb128.proofs.writer.write_number.Statement.{statement}
+use Rattle.leb128.proofs.writer.write_number.Tie as tie
+
+returns : tie.Need-returns
+returns c = no-form (now (c .before .before .args .bytes)) (c .before .before .args .at) (c .before .before .args .n) (omega arith)
+
+number-size-requires : tie.Need-number-size-requires
+number-size-requires c κs = search needs
+
+returns-2 : tie.Need-returns-2
+returns-2 c = no-room (now (c .before .before .before .before .args .bytes)) (c .before .before .before .before .args .at) (c .before .before .before .before .args .n) (omega arith) (omega (arith, c .before .number-size .ensures))
+
+sub-if3 : tie.Need-sub-if3
+sub-if3 c = search needs
+
+returns-3 : tie.Need-returns-3
+returns-3 c = no-room (now (c .before .before .before .before .before .args .bytes)) (c .before .before .before .before .before .args .at) (c .before .before .before .before .before .args .n) (omega arith) (omega (arith, c .before .before .number-size .ensures))
+
+store-requires : tie.Need-store-requires
+store-requires c κs = search needs
+
+same-length : tie.Need-same-length
+same-length c = search needs
+
+returns-4 : tie.Need-returns-4
+returns-4 c = next-place (now (c .before .before .before .before .before .before .before .before .before .args .bytes)) (c .before .before .before .before .before .before .before .before .before .args .at) (c .before .before .before .before .before .before .before .before .before .args .n) (omega arith) _ _ (omega (arith, c .before .before .before .before .before .before .number-size .ensures)) (c .before .before .store .ensures)
+
+pub write-number-spec : {M : Type 1} → statement M
+write-number-spec =
+    tie.close
+    (tie.spec
+    returns
+    number-size-requires
+    returns-2
+    sub-if3
+    returns-3
+    store-requires
+    same-length
+    returns-4)

@@ -1,0 +1,9 @@
+pub mod Number
+pub mod Limits
+pub mod Refusals
+pub mod Grammar
+pub mod Source
+pub mod Walk
+pub mod Format
+pub mod Place
+pub mod laws

@@ -1,0 +1,11 @@
+pub mod Cases
+pub mod DecodeEncode
+pub mod DecodeFront
+pub mod ItemCases
+pub mod StepCases
+pub mod EachNumber
+pub mod AcceptedNumbers
+pub mod GoodFormat
+pub mod OneToOne
+pub mod FirstBytes
+pub mod WriterRefusals

@@ -1,0 +1,12 @@
+pub mod Rules
+pub mod Steps
+pub mod Edges
+pub mod Layers
+pub mod Sheet
+pub mod Openings
+pub mod Settling
+pub mod SecondPass
+pub mod Written
+pub mod Filling
+pub mod Putting
+pub mod Examples

@@ -1,0 +1,46 @@
+-- `sheet::source::listed` meets its contract: what is found in the list is the source's item, counted by its bytes.
+use native.Mathlib.Omega.{arith}
+use denote.Ref.{now}
+use mathlib.Core.Bool.{false}
+use mathlib.Core.Path.{sym, _∙_, ap}
+use Rattle.sheet.proofs.laws.Steps.{listed-item, listed-there}
+use Rattle.sheet.specs.inside.Cursor.{step-of}
+use Rattle.leb128.specs.laws.DecodeEncode.{encode-most}
+use Rattle.leb128.specs.Source.{item}
+use Rattle.leb128.specs.Limits.{number-bytes}
+use borrow.Author.Needs.{needs}
+use Rattle.sheet.proofs.source.listed.Statement.{statement}
+use Rattle.sheet.proofs.source.listed.Tie as tie
+
+list-number-requires : tie.Need-list-number-requires
+list-number-requires c κs = search needs
+
+enum-known-found : tie.Need-enum-known-found
+enum-known-found c = search needs
+
+enum-known-found-2 : tie.Need-enum-known-found-2
+enum-known-found-2 c = search needs
+
+number-size-requires : tie.Need-number-size-requires
+number-size-requires c κs = search needs
+
+add-t10 : tie.Need-add-t10
+add-t10 c = omega (arith, c .before .before .before .before .before .before .pre, c .before .before .before .before .before .before .good, c .number-size .ensures, encode-most number-bytes (c .before .before .found2 .given .0 .0), listed-there (now (c .before .before .before .before .before .before .args .numbers)) (c .before .before .before .before .before .before .args .at) (sym (ap item (c .before .before .found2 .given .1)) ∙ c .before .before .before .before .list-number .ensures))
+
+returns : tie.Need-returns
+returns c = sym (ap (step-of (record { encoded = false; at = c .before .before .before .before .before .args .at; count = c .before .before .before .before .before .args .count })) (listed-item (now (c .before .before .before .before .before .args .numbers)) (c .before .before .before .before .before .args .at) (c .before .before .before .list-number .ensures) ∙ ap item (c .before .found .given .1)))
+
+returns-2 : tie.Need-returns-2
+returns-2 c = rw (c .number-size .ensures) (sym (ap (step-of (record { encoded = false; at = c .before .before .before .before .before .before .args .at; count = c .before .before .before .before .before .before .args .count })) (listed-item (now (c .before .before .before .before .before .before .args .numbers)) (c .before .before .before .before .before .before .args .at) (c .before .before .before .before .list-number .ensures) ∙ ap item (c .before .before .found2 .given .1))))
+
+pub listed-spec : {M : Type 1} → statement M
+listed-spec =
+    tie.close
+    (tie.spec
+    list-number-requires
+    enum-known-found
+    enum-known-found-2
+    number-size-requires
+    add-t10
+    returns
+    returns-2)

@@ -1,0 +1,50 @@
+-- `sheet::start::opens` meets its contract: the opening is compared byte by byte.
+use lib.ListN.{getD}
+use Rattle.sheet.specs.Limits.{magic}
+use denote.Ref.{now}
+use borrow.Author.Tests.{eq-eqb, ne-eqb}
+use Rattle.sheet.proofs.laws.Openings.{opening}
+use borrow.Author.Needs.{needs}
+use Rattle.sheet.proofs.start.opens.Statement.{statement}
+use Rattle.sheet.proofs.start.opens.Tie as tie
+
+shared-slice-read-if1 : tie.Need-shared-slice-read-if1
+shared-slice-read-if1 c = search needs
+
+array-read-if1 : tie.Need-array-read-if1
+array-read-if1 c = search needs
+
+returns : tie.Need-returns
+returns c = rw (opening (now (c .before .before .args .bytes)) (c .before .before .pre), ne-eqb (getD (now (c .before .before .args .bytes)) 0 0) (getD magic 0 0) (c .if1 .taken))
+
+shared-slice-read-if2 : tie.Need-shared-slice-read-if2
+shared-slice-read-if2 c = search needs
+
+array-read-if2 : tie.Need-array-read-if2
+array-read-if2 c = search needs
+
+returns-2 : tie.Need-returns-2
+returns-2 c = rw (opening (now (c .before .before .before .before .args .bytes)) (c .before .before .before .before .pre), eq-eqb (getD (now (c .before .before .before .before .args .bytes)) 0 0) (getD magic 0 0) (c .before .before .if1 .left), ne-eqb (getD (now (c .before .before .before .before .args .bytes)) 1 0) (getD magic 1 0) (c .if2 .taken))
+
+shared-slice-read-result : tie.Need-shared-slice-read-result
+shared-slice-read-result c = search needs
+
+array-read-result : tie.Need-array-read-result
+array-read-result c = search needs
+
+returns-3 : tie.Need-returns-3
+returns-3 c = rw (opening (now (c .before .before .before .before .before .args .bytes)) (c .before .before .before .before .before .pre), eq-eqb (getD (now (c .before .before .before .before .before .args .bytes)) 0 0) (getD magic 0 0) (c .before .before .before .if1 .left), eq-eqb (getD (now (c .before .before .before .before .before .args .bytes)) 1 0) (getD magic 1 0) (c .before .if2 .left))
+
+pub opens-spec : {M : Type 1} → statement M
+opens-spec =
+    tie.close
+    (tie.spec
+    shared-slice-read-if1
+    array-read-if1
+    returns
+    shared-slice-read-if2
+    array-read-if2
+    returns-2
+    shared-slice-read-result
+    array-read-result
+    returns-3)

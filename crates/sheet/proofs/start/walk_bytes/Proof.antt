@@ -1,0 +1,47 @@
+-- `sheet::start::walk_bytes` meets its contract: the opening, and the walk behind it.
+use mathlib.Core.Path.{_∙_, sym, ap}
+use Rattle.sheet.specs.inside.Cursor.{walked}
+use native.Mathlib.Omega.{arith}
+use denote.Ref.{now}
+use borrow.Author.Tests.{not-true, not-false}
+use Rattle.sheet.proofs.laws.Openings.{too-short, opens-not, bytes-walked}
+use borrow.Author.Needs.{needs}
+use Rattle.sheet.proofs.start.walk_bytes.Statement.{statement}
+use Rattle.sheet.proofs.start.walk_bytes.Tie as tie
+
+refuse-requires : tie.Need-refuse-requires
+refuse-requires c κs = search needs
+
+returns : tie.Need-returns
+returns c = ap walked (c .refuse .ensures) ∙ too-short (now (c .before .before .before .args .bytes)) (omega arith)
+
+opens-requires : tie.Need-opens-requires
+opens-requires c κs = search needs
+
+refuse-requires-2 : tie.Need-refuse-requires-2
+refuse-requires-2 c κs = search needs
+
+returns-2 : tie.Need-returns-2
+returns-2 c = ap walked (c .refuse2 .ensures) ∙ opens-not (now (c .before .before .before .before .before .args .bytes)) (omega arith) (sym (c .before .before .opens .ensures) ∙ not-true _ (c .before .if2 .taken))
+
+slice-aggregate-walk : tie.Need-slice-aggregate-walk
+slice-aggregate-walk c = search needs
+
+walk-requires : tie.Need-walk-requires
+walk-requires c κs = search needs
+
+returns-3 : tie.Need-returns-3
+returns-3 c = bytes-walked (now (c .before .before .before .before .before .before .args .bytes)) (omega arith) _ _ (sym (c .before .before .before .opens .ensures) ∙ not-false _ (c .before .before .if2 .left)) (c .walk .ensures)
+
+pub walk-bytes-spec : {M : Type 1} → statement M
+walk-bytes-spec =
+    tie.close
+    (tie.spec
+    refuse-requires
+    returns
+    opens-requires
+    refuse-requires-2
+    returns-2
+    slice-aggregate-walk
+    walk-requires
+    returns-3)

@@ -1,0 +1,47 @@
+-- `sheet::write` meets its contract: what the walk settles to is the answer, and the second pass fills the slice.
+use Rattle.sheet.proofs.laws.SecondPass.{refused-kept, write-done, write-filled}
+use Rattle.sheet.proofs.laws.Settling.{write-settled}
+use Rattle.sheet.specs.Grammar.{sheet}
+use Rattle.sheet.specs.Limits.{magic}
+use Rattle.leb128.specs.Format.{writing}
+use denote.Ref.{now}
+use borrow.Author.Needs.{needs}
+use Rattle.sheet.proofs.write.Statement.{statement}
+use Rattle.sheet.proofs.write.Tie as tie
+
+walk-list-requires : tie.Need-walk-list-requires
+walk-list-requires c κs = search needs
+
+settle-requires : tie.Need-settle-requires
+settle-requires c κs = search needs
+
+enum-told : tie.Need-enum-told
+enum-told c = search needs
+
+enum-told-2 : tie.Need-enum-told-2
+enum-told-2 c = search needs
+
+returns : tie.Need-returns
+returns c = let a = (write-settled (now (c .before .before .before .before .before .before .args .numbers)) _ (c .before .before .before .walk-list .ensures) (c .before .before .settle .ensures)) in (a, refused-kept (writing magic sheet (now (c .before .before .before .before .before .before .args .numbers))) (now (c .before .before .before .before .before .before .args .bytes)) a (c .enum-told2 .given .1))
+
+put-sheet-requires : tie.Need-put-sheet-requires
+put-sheet-requires c κs = let w = write-done (now (c .before .before .before .before .before .before .before .args .bytes)) (c .before .enum-told .given .1) (now (c .before .before .before .before .before .before .before .args .numbers)) (write-settled (now (c .before .before .before .before .before .before .before .args .numbers)) _ (c .before .before .before .before .walk-list .ensures) (c .before .before .before .settle .ensures)) in (w .1, w .2)
+
+same-length : tie.Need-same-length
+same-length c = search needs
+
+returns-2 : tie.Need-returns-2
+returns-2 c = let a = (write-settled (now (c .before .before .before .before .before .before .before .before .before .before .args .numbers)) _ (c .before .before .before .before .before .before .before .walk-list .ensures) (c .before .before .before .before .before .before .settle .ensures)) in (a, write-filled (now (c .before .before .before .before .before .before .before .before .before .before .args .bytes)) (c .before .before .before .before .enum-told .given .1) (now (c .before .before .before .before .before .before .before .before .before .before .args .numbers)) a (c .before .before .put-sheet .ensures))
+
+pub write-spec : {M : Type 1} → statement M
+write-spec =
+    tie.close
+    (tie.spec
+    walk-list-requires
+    settle-requires
+    enum-told
+    enum-told-2
+    returns
+    put-sheet-requires
+    same-length
+    returns-2)

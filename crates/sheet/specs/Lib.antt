@@ -1,0 +1,6 @@
+pub mod Limits
+pub mod Layout
+pub mod Refusals
+pub mod Grammar
+pub mod inside
+pub mod laws

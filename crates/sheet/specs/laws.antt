@@ -1,0 +1,3 @@
+pub mod SheetNumbers
+pub mod LaidOut
+pub mod Sheets

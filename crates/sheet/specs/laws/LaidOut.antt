@@ -1,0 +1,88 @@
+-- The numbers of a good sheet stand where the layout says: layer after layer, then the count of edges, then the edges,
+-- which end the list; and the counts of layers, nodes and edges are within their limits.
+use Prim.Native.Nat.{ℕ, zero, suc, _+_, _-_, _*_, _≤_, min}
+use mathlib.Core.Path.{_≡_, refl, sym, _∙_, ap}
+use mathlib.Core.List.{List, [], _∷_, _++_}
+use native.Mathlib.Omega.{arith}
+use lib.ListN.{length, getD, drop, length-drop}
+use lib.Seq.{drop-drop, getD-drop}
+use Rattle.leb128.specs.Grammar.{Form, Grammar, Rule}
+use Rattle.leb128.specs.Grammar.Grammar.{number}
+use Rattle.leb128.specs.laws.EachNumber.{within-limits}
+use Rattle.leb128.specs.laws.AcceptedNumbers.{Accepts}
+use Rattle.leb128.specs.laws.AcceptedNumbers.Accepts.{nil, one}
+use Rattle.sheet.specs.Limits.{max-width, max-layers, max-layer-nodes, max-nodes, max-edges}
+use Rattle.sheet.specs.Layout.{width-at, layers-at, first-layer-at, separation-stride, layer-size, next-layer, behind-layers, nodes-of, edges-at, edge-stride, node-count, edge-part, edge-count}
+use Rattle.sheet.specs.Grammar.{separation, separations, layers, edge, edges, sheet}
+
+-- the first number meets its rule, and what follows it is accepted
+pub record Opened (rule : Rule) (next : ℕ → Grammar) (s : List ℕ) : Type 0 where
+  pub meets : rule (getD s 0 0) ≡ 0
+  pub rest : Accepts (next (getD s 0 0)) (drop 1 s)
+  pub there : length s ≡ 1 + length (drop 1 s)
+
+-- accepted numbers, opened
+pub opened : {form : Form} {rule : Rule} {next : ℕ → Grammar} {s : List ℕ} → Accepts (number form rule next) s → Opened rule next s
+opened (one ok rest) = record { meets = ok; rest = rest; there = omega arith }
+
+-- what follows n pairs
+behind-pairs : (n : ℕ) {next : Grammar} {s : List ℕ} → Accepts (separations n next) s → Accepts next (drop (separation-stride * n) s)
+unfolding separations separation
+behind-pairs zero a = a
+behind-pairs (suc n) {s = s} a =
+    let all : separation-stride * suc n ≡ 1 + (1 + separation-stride * n) = omega arith in
+    rw (all, ← drop-drop (1 + separation-stride * n) 1 s, ← drop-drop (separation-stride * n) 1 (drop 1 s)) (behind-pairs n (opened (opened a .rest) .rest))
+
+-- n layers are followed by what the grammar says, and have at most room nodes
+record Laid (n room : ℕ) (next : List ℕ → Grammar) (s : List ℕ) : Type 0 where
+  pub counts : List ℕ
+  pub rest : Accepts (next counts) (behind-layers n s)
+  pub few : nodes-of n s ≤ room
+
+-- the layers of accepted numbers
+laid : (n room : ℕ) (counts : List ℕ) {next : List ℕ → Grammar} {s : List ℕ} → Accepts (layers n room counts next) s → Laid n room next s
+unfolding layers behind-layers nodes-of
+laid zero room counts a = record { counts = counts; rest = a; few = omega arith }
+laid (suc n) room counts {s = s} a =
+    let o = opened a in
+    let nodes : ℕ = getD s 0 0 in
+    let limits = within-limits 1 (min max-layer-nodes room) nodes (o .meets) in
+    let others = laid n (room - nodes) (counts ++ nodes ∷ []) (rw (drop-drop (separation-stride * (nodes - 1)) 1 s) at (behind-pairs (nodes - 1) (o .rest))) in
+    record { counts = others .counts; rest = others .rest; few = omega (arith, limits, others .few) }
+
+-- n edges end the list
+edges-end : (n : ℕ) (counts : List ℕ) {s : List ℕ} → Accepts (edges n counts) s → length s ≡ edge-stride * n
+unfolding edges edge
+edges-end zero counts nil = refl
+edges-end (suc n) counts a =
+    let layer = opened a in
+    let upper = opened (layer .rest) in
+    let lower = opened (upper .rest) in
+    let kind = opened (lower .rest) in
+    omega (arith, layer .there, upper .there, lower .there, kind .there, edges-end n counts (kind .rest))
+
+-- what the layout says of a good sheet's numbers
+pub record LaidOut (numbers : List ℕ) : Type 0 where
+  pub width : getD numbers width-at 0 ≤ max-width
+  pub layer-count : (1 ≤ getD numbers layers-at 0) × (getD numbers layers-at 0 ≤ max-layers)
+  pub nodes : node-count numbers ≤ max-nodes
+  pub edges : edge-count numbers ≤ max-edges
+  pub size : length (edge-part numbers) ≡ edges-at + edge-stride * edge-count numbers
+
+-- a good sheet's numbers are laid out so
+pub laid-out : (numbers : List ℕ) → Accepts sheet numbers → LaidOut numbers
+unfolding sheet
+laid-out numbers a =
+    let width = opened a in
+    let count = opened (width .rest) in
+    let n : ℕ = getD (drop 1 numbers) 0 0 in
+    let is-n : n ≡ getD numbers layers-at 0 = getD-drop 1 numbers 0 0 in
+    let l = rw (drop-drop 1 1 numbers, is-n) at (laid n max-nodes [] (count .rest)) in
+    let total = opened (l .rest) in
+    record {
+      width = within-limits 0 max-width (getD numbers width-at 0) (width .meets) .1;
+      layer-count = rw (← is-n) (within-limits 1 max-layers n (count .meets));
+      nodes = l .few;
+      edges = within-limits 0 max-edges (edge-count numbers) (total .meets) .1;
+      size = total .there ∙ ap (λ (k : ℕ). edges-at + k) (edges-end (edge-count numbers) (l .counts) (total .rest));
+    }

@@ -1,0 +1,77 @@
+-- What holds of sheets, by the laws of any format at the sheet's magic and grammar: one to one, the bounds, the first
+-- bytes, the writer's refusals.
+use Prim.Native.Nat.{ℕ, _+_, _≤_}
+use mathlib.Core.Path.{_≡_, sym, _∙_, ap}
+use mathlib.Core.List.{List, _++_}
+use native.Mathlib.Omega.{arith}
+use lib.ListN.{length, take}
+use Rattle.leb128.specs.Grammar.{Form, Rule}
+use Rattle.leb128.specs.Source.{Source}
+use Rattle.leb128.specs.Walk.{asked}
+use Rattle.leb128.specs.Format.{Outcome, encoded, reading, writing, answered}
+use Rattle.leb128.specs.Format.Result.{elements}
+use Rattle.leb128.specs.laws.DecodeEncode.{AreBytes}
+use Rattle.leb128.specs.laws.EachNumber.{each-map, most-asked as format-most-asked}
+use Rattle.leb128.specs.laws.AcceptedNumbers.{Accepts, chain-accepts, most-numbers as accepted-most}
+use Rattle.leb128.specs.laws.GoodFormat.{good-reading, good-writing}
+use Rattle.leb128.specs.laws.OneToOne.{Fits, accepted-written as format-accepted-written, read-written as format-read-written, write-read as format-write-read}
+use Rattle.leb128.specs.laws.FirstBytes.{front-reading, most-bytes as format-most-bytes}
+use Rattle.leb128.specs.laws.WriterRefusals.{writer-gives}
+use Rattle.leb128.specs.declared.Refusal.{Refusal}
+use Rattle.sheet.specs.Limits.{magic, max-numbers, max-bytes}
+use Rattle.sheet.specs.Grammar.{sheet}
+use Rattle.sheet.specs.laws.SheetNumbers.{SheetNumber, WriterRefusal, each-sheet}
+use Rattle.sheet.specs.laws.SheetNumbers.WriterRefusal.{ended, follows, short}
+use Rattle.sheet.specs.laws.LaidOut.{LaidOut, laid-out}
+
+-- the form holds each number
+fits : (form : Form) (rule : Rule) → SheetNumber form rule → Fits form rule
+fits form rule p n ok = rw (p .is-plain) (omega arith, omega (arith, p .small n ok))
+
+-- the number lists that are written are those that the grammar accepts: the good ones
+pub accepted-written : (numbers : List ℕ) → Accepts sheet numbers → writing magic sheet numbers ≡ elements (magic ++ encoded sheet numbers)
+accepted-written = format-accepted-written magic sheet
+
+-- a list that is written is good
+pub written-accepted : (numbers bytes : List ℕ) → writing magic sheet numbers ≡ elements bytes → Accepts sheet numbers
+written-accepted numbers bytes e = good-writing magic sheet numbers bytes e .0
+
+-- numbers that are read are a good list
+pub read-accepted : (bytes numbers : List ℕ) → reading magic sheet bytes ≡ elements numbers → Accepts sheet numbers
+read-accepted bytes numbers e = chain-accepts (good-reading magic sheet bytes numbers e .good .chain)
+
+-- one to one: every list that is written is read back as itself
+pub read-written : (numbers bytes : List ℕ) → writing magic sheet numbers ≡ elements bytes → reading magic sheet bytes ≡ elements numbers
+read-written = format-read-written magic sheet (each-map fits each-sheet)
+
+-- one to one: every byte string that is read is written again with the same bytes
+pub write-read : (bytes numbers : List ℕ) → AreBytes bytes → reading magic sheet bytes ≡ elements numbers → writing magic sheet numbers ≡ elements bytes
+write-read = format-write-read magic sheet
+
+-- a walk over any source asks for at most 2,559 numbers, refused or not
+pub most-asked : (source : Source) (at : ℕ) → asked sheet source at ≤ max-numbers
+most-asked = format-most-asked each-sheet
+
+-- a good sheet has at most 2,559 numbers
+pub most-numbers : (numbers : List ℕ) → Accepts sheet numbers → length numbers ≤ max-numbers
+most-numbers numbers = accepted-most each-sheet
+
+-- a good sheet has at most 256 nodes and 512 edges, and its numbers stand where the layout says
+pub good-layout : (numbers : List ℕ) → Accepts sheet numbers → LaidOut numbers
+good-layout = laid-out
+
+-- a good sheet has at most 5,121 bytes
+pub most-bytes : (bytes numbers : List ℕ) → reading magic sheet bytes ≡ elements numbers → length bytes ≤ max-bytes
+most-bytes = format-most-bytes magic each-sheet
+
+-- reading depends on the first 5,122 bytes only
+pub first-bytes : (bytes : List ℕ) → reading magic sheet (take (max-bytes + 1) bytes) ≡ reading magic sheet bytes
+first-bytes = front-reading magic each-sheet
+
+-- so bytes that agree on them are read alike, and so is whatever starts with reading
+pub read-alike : (one other : List ℕ) → take (max-bytes + 1) one ≡ take (max-bytes + 1) other → reading magic sheet one ≡ reading magic sheet other
+read-alike one other e = sym (first-bytes one) ∙ (ap (reading magic sheet) e ∙ first-bytes other)
+
+-- the writer gives refusals 1, 4, 5, 6 and 7 only
+pub writer-refusals : (numbers : List ℕ) (room : ℕ) (r : Refusal) → answered room (writing magic sheet numbers) ≡ Outcome.refused r → WriterRefusal (r .number)
+writer-refusals = writer-gives WriterRefusal ended follows short (each-map (λ form rule p. p .gives) each-sheet) magic

@@ -1,0 +1,30 @@
+//! Refusals: why an input is not taken, and where.
+
+/// The input ends before the sheet does.
+pub const ENDED: u32 = 1;
+/// Three bytes are there and are not the signature.
+pub const NOT_A_SHEET: u32 = 2;
+/// A number is not in its shortest form of at most two bytes.
+pub const BAD_FORM: u32 = 3;
+/// A number lies outside its limits.
+pub const OUTSIDE_LIMITS: u32 = 4;
+/// A maximum separation is set and is below its minimum separation.
+pub const MAXIMUM_BELOW_MINIMUM: u32 = 5;
+/// Something follows the last edge.
+pub const EXCESS: u32 = 6;
+/// A slice is too short for what is to be written there.
+pub const SLICE_TOO_SHORT: u32 = 7;
+
+/// One of the numbers above, and an offset in bytes (for the writer: an index).
+#[derive(Clone, Copy, Debug, PartialEq, Eq)]
+pub struct Refusal {
+    pub number: u32,
+    pub offset: usize,
+}
+
+impl Refusal {
+    /// Puts a refusal together.
+    pub fn new(number: u32, offset: usize) -> Refusal {
+        Refusal { number, offset }
+    }
+}
