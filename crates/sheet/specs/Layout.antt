@@ -72,12 +72,12 @@ abbrev pub next-layer : List ℕ → List ℕ
 next-layer numbers = drop (layer-size (getD numbers nodes-at 0)) numbers
 
 -- what follows n layers
-unfoldable pub behind-layers : ℕ → List ℕ → List ℕ
+abbrev pub behind-layers : ℕ → List ℕ → List ℕ
 behind-layers zero numbers = numbers
 behind-layers (suc n) numbers = behind-layers n (next-layer numbers)
 
 -- how many nodes n layers have
-unfoldable pub nodes-of : ℕ → List ℕ → ℕ
+abbrev pub nodes-of : ℕ → List ℕ → ℕ
 nodes-of zero numbers = 0
 nodes-of (suc n) numbers = getD numbers nodes-at 0 + nodes-of n (next-layer numbers)
 

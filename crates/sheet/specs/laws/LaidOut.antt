@@ -12,7 +12,7 @@ use Rattle.leb128.specs.laws.EachNumber.{within-limits}
 use Rattle.leb128.specs.laws.AcceptedNumbers.{Accepts}
 use Rattle.leb128.specs.laws.AcceptedNumbers.Accepts.{nil, one}
 use Rattle.sheet.specs.Limits.{max-width, max-layers, max-layer-nodes, max-nodes, max-edges}
-use Rattle.sheet.specs.Layout.{width-at, layers-at, first-layer-at, separation-stride, layer-size, next-layer, behind-layers, nodes-of, edges-at, edge-stride, node-count, edge-part, edge-count}
+use Rattle.sheet.specs.Layout.{width-at, layers-at, first-layer-at, nodes-at, separation-stride, layer-size, next-layer, behind-layers, nodes-of, edges-at, edge-stride, node-count, edge-part, edge-count}
 use Rattle.sheet.specs.Grammar.{separation, separations, layers, edge, edges, sheet}
 
 -- the first number meets its rule, and what follows it is accepted
@@ -25,13 +25,31 @@ pub record Opened (rule : Rule) (next : ℕ → Grammar) (s : List ℕ) : Type 0
 pub opened : {form : Form} {rule : Rule} {next : ℕ → Grammar} {s : List ℕ} → Accepts (number form rule next) s → Opened rule next s
 opened (one ok rest) = record { meets = ok; rest = rest; there = omega arith }
 
+-- k numbers are there, and what follows them is accepted
+pub record Behind (k : ℕ) (next : Grammar) (s : List ℕ) : Type 0 where
+  pub there : k ≤ length s
+  pub rest : Accepts next (drop k s)
+
 -- what follows n pairs
-behind-pairs : (n : ℕ) {next : Grammar} {s : List ℕ} → Accepts (separations n next) s → Accepts next (drop (separation-stride * n) s)
+pub behind-pairs : (n : ℕ) {next : Grammar} {s : List ℕ} → Accepts (separations n next) s → Behind (separation-stride * n) next s
 unfolding separations separation
-behind-pairs zero a = a
+behind-pairs zero a = record { there = omega arith; rest = a }
 behind-pairs (suc n) {s = s} a =
+    let minimum = opened a in
+    let maximum = opened (minimum .rest) in
+    let others = behind-pairs n (maximum .rest) in
     let all : separation-stride * suc n ≡ 1 + (1 + separation-stride * n) = omega arith in
-    rw (all, ← drop-drop (1 + separation-stride * n) 1 s, ← drop-drop (separation-stride * n) 1 (drop 1 s)) (behind-pairs n (opened (opened a .rest) .rest))
+    record {
+      there = omega (arith, minimum .there, maximum .there, others .there);
+      rest = rw (all, ← drop-drop (1 + separation-stride * n) 1 s, ← drop-drop (separation-stride * n) 1 (drop 1 s)) (others .rest);
+    }
+
+-- what follows a layer's count and its pairs
+pub behind-layer : {next : Grammar} (s : List ℕ) → 1 ≤ length s → Accepts (separations (getD s nodes-at 0 - 1) next) (drop 1 s) → Behind (layer-size (getD s nodes-at 0)) next s
+behind-layer s h a =
+    let n : ℕ = getD s nodes-at 0 - 1 in
+    let pairs = behind-pairs n a in
+    record { there = omega (arith, pairs .there, length-drop 1 s); rest = rw (drop-drop (separation-stride * n) 1 s) at (pairs .rest) }
 
 -- n layers are followed by what the grammar says, and have at most room nodes
 record Laid (n room : ℕ) (next : List ℕ → Grammar) (s : List ℕ) : Type 0 where
@@ -41,13 +59,13 @@ record Laid (n room : ℕ) (next : List ℕ → Grammar) (s : List ℕ) : Type 0
 
 -- the layers of accepted numbers
 laid : (n room : ℕ) (counts : List ℕ) {next : List ℕ → Grammar} {s : List ℕ} → Accepts (layers n room counts next) s → Laid n room next s
-unfolding layers behind-layers nodes-of
+unfolding layers
 laid zero room counts a = record { counts = counts; rest = a; few = omega arith }
 laid (suc n) room counts {s = s} a =
     let o = opened a in
     let nodes : ℕ = getD s 0 0 in
     let limits = within-limits 1 (min max-layer-nodes room) nodes (o .meets) in
-    let others = laid n (room - nodes) (counts ++ nodes ∷ []) (rw (drop-drop (separation-stride * (nodes - 1)) 1 s) at (behind-pairs (nodes - 1) (o .rest))) in
+    let others = laid n (room - nodes) (counts ++ nodes ∷ []) (behind-layer s (omega (arith, o .there)) (o .rest) .rest) in
     record { counts = others .counts; rest = others .rest; few = omega (arith, limits, others .few) }
 
 -- n edges end the list

@@ -8,11 +8,11 @@ use mathlib.Core.List.{List, [], _∷_, _++_}
 use native.Mathlib.Omega.{arith}
 use lib.ListN.{length, getD, length-append}
 use lib.Dec.{ltb, leb, eqb}
-use borrow.Author.Tests.{eq-eqb, ne-eqb}
+use borrow.Author.Tests.{eq-eqb, ne-eqb, lt-ltb}
 use Rattle.leb128.specs.Limits.{number-limit, list-limit}
 use Rattle.leb128.specs.Refusals.{input-ended, outside-limits, something-follows, slice-short}
 use Rattle.leb128.specs.Grammar.{Form, Grammar, Rule, plain, within, both}
-use Rattle.leb128.specs.laws.Cases.{test, eq-or-ne}
+use Rattle.leb128.specs.laws.Cases.{test, eq-or-ne, lt-or-le}
 use Rattle.leb128.specs.laws.EachNumber.{Each, first, each-more, within-limits}
 use Rattle.leb128.specs.laws.EachNumber.Each.{end}
 use Rattle.sheet.specs.Refusals.{separations-crossed}
@@ -87,6 +87,21 @@ maximum least =
       small = λ n ok. limited 0 max-separation (omega arith) .small n (both-zero (within 0 max-separation) (crossed least) n ok);
       gives = both-gives least;
     }
+
+-- a maximum separation that is accepted is within its limits
+pub maximum-within : (least n : ℕ) → maximum-rule least n ≡ 0 → n ≤ max-separation
+maximum-within least n ok = within-limits 0 max-separation n (both-zero (within 0 max-separation) (crossed least) n ok) .1
+
+-- and, where it is set, not below its minimum
+pub maximum-apart : (least n : ℕ) → maximum-rule least n ≡ 0 → 0 < n → least ≤ n
+unfolding both crossed
+maximum-apart least n ok pos =
+    ⊎-elim
+    (λ (below : n < least).
+    let e = rw (eq-eqb (within 0 max-separation n) 0 (both-zero (within 0 max-separation) (crossed least) n ok), ne-eqb n 0 (omega arith), lt-ltb n least below) at ok in
+    let z : _≡_ {A = ℕ} separations-crossed 0 = e in absurd (omega arith))
+    (λ (h : least ≤ n). h)
+    (lt-or-le n least)
 
 -- the pairs of a layer
 each-separations : (n m : ℕ) {next : Grammar} → Each SheetNumber m next → Each SheetNumber (separation-stride * n + m) (separations n next)

@@ -1,0 +1,64 @@
+-- Document 01, "Drawing and total".
+use Prim.Native.Nat.{ℕ, zero, suc, _+_, _-_, _≤_}
+use mathlib.Core.Path.{_≡_}
+use mathlib.Core.Bool.{Bool, true, _&&_}
+use mathlib.Core.List.{List}
+use lib.Dec.{T, leb, eqb}
+use lib.ListN.{length, getD}
+use Rattle.network.specs.Sums.{all, sumℕ}
+use Rattle.drawing.specs.Sheet.{Pair, Edge, Sheet}
+
+-- the coordinate (place) of node v
+abbrev pub coordinate : List ℕ → ℕ → ℕ
+coordinate p v = getD p v 0
+
+-- b is at most the maximum right of a, where one is set
+abbrev pub within-maximum : ℕ → ℕ → ℕ → Bool
+within-maximum zero a b = true
+within-maximum (suc maximum) a b = leb b (a + suc maximum)
+
+-- the right neighbour's coordinate minus the left one's is at least the minimum, and at most the maximum where one is set
+abbrev pub separated : List ℕ → Pair → Bool
+separated p x =
+    leb (coordinate p (x .left) + x .minimum) (coordinate p (suc (x .left)))
+    && within-maximum (x .maximum) (coordinate p (x .left)) (coordinate p (suc (x .left)))
+
+-- the ends a and b of a straight edge are equal
+abbrev pub aligned : ℕ → ℕ → ℕ → Bool
+aligned zero a b = true
+aligned (suc kind) a b = eqb a b
+
+-- the same of an edge
+abbrev pub edge-aligned : List ℕ → Edge → Bool
+edge-aligned p e = aligned (e .kind) (coordinate p (e .upper)) (coordinate p (e .lower))
+
+-- a drawing: a coordinate from 0 to the width for each node, separations and straight edges met
+pub record Drawing (S : Sheet) (p : List ℕ) : Type 0 where
+  pub size : length p ≡ S .nodes
+  pub inside : T (all (λ x. leb x (S .width)) p)
+  pub separations : T (all (λ l. all (separated p) (l .pairs)) (S .layers))
+  pub straight : T (all (edge-aligned p) (S .edges))
+
+-- the same as a test
+unfoldable pub is-drawing : Sheet → List ℕ → Bool
+is-drawing S p =
+    eqb (length p) (S .nodes)
+    && (all (λ x. leb x (S .width)) p && (all (λ l. all (separated p) (l .pairs)) (S .layers) && all (edge-aligned p) (S .edges)))
+
+-- the length (run) of an edge: the size of the difference of its ends' coordinates
+abbrev pub edge-length : List ℕ → Edge → ℕ
+edge-length p e = (coordinate p (e .lower) - coordinate p (e .upper)) + (coordinate p (e .upper) - coordinate p (e .lower))
+
+-- the total: the sum over all edges
+unfoldable pub total-length : Sheet → List ℕ → ℕ
+total-length S p = sumℕ (edge-length p) (S .edges)
+
+-- every drawing has at least this one's total
+pub record LeastDrawing (S : Sheet) (p : List ℕ) : Type 0 where
+  pub drawing : Drawing S p
+  pub least : (q : List ℕ) → Drawing S q → total-length S p ≤ total-length S q
+
+-- the drawing that is returned: and where another's total is equal, each node's coordinate in it is at least as large
+pub record LeftmostDrawing (S : Sheet) (p : List ℕ) : Type 0 where
+  pub is-least : LeastDrawing S p
+  pub leftmost : (q : List ℕ) → Drawing S q → total-length S q ≡ total-length S p → (v : ℕ) → coordinate p v ≤ coordinate q v

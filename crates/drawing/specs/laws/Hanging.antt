@@ -1,0 +1,114 @@
+-- Every node of a sheet hangs on ground, by its left boundary or by the minimum separation from its left neighbour; so every
+-- integer solution of a sheet's network is a drawing, from 0 to the width.
+use Prim.Native.Nat.{ℕ, zero, suc, _+_, _-_, _≤_, _<_, zero-le}
+use mathlib.Core.Path.{_≡_, refl, sym, subst}
+use mathlib.Core.Bool.{Bool, _&&_}
+use mathlib.Core.List.{List, [], _∷_, _++_, map, flatMap}
+use mathlib.Core.Logic.{inl, inr}
+use native.Mathlib.Decide.{ℕ-discrete, decLt}
+use native.Mathlib.Omega.{arith}
+use lib.Dec.{T}
+use lib.IntN.{ℤ, pos, negsuc, negℤ}
+use lib.ListN.{length, getD, drop}
+use lib.Signed.{_≤ℤ_, leZ-yes}
+use Rattle.network.specs.Sums.{all}
+use Rattle.network.specs.Network.{Arc, Network, Feasible, integers}
+use Rattle.network.specs.laws.IntegerParts.{up}
+use Rattle.network.specs.laws.Tests.{and-left, and-right}
+use Rattle.network.specs.laws.Hanging.{Hook, Hangs, hook-first, hook-second, natural-potentials}
+use Rattle.sheet.specs.Layout.{layers-at, first-layer-at, nodes-at, separations-at, separation-stride, minimum-at, maximum-at, next-layer}
+use Rattle.drawing.specs.Sheet.{Pair, Layer, Sheet, pairs-of, layers-of, first-nodes, sheet-of}
+use Rattle.drawing.specs.Drawing.{Drawing}
+use Rattle.drawing.specs.Arcs.{edge-arc, upper-bound, minimum-arc, maximum-arc, separation-arcs, layer-arcs, network}
+use Rattle.drawing.specs.laws.SameDrawings.{feasible-drawing}
+
+-- a number that is taken away is not positive
+minus-le : (n : ℕ) → negℤ (pos n) ≤ℤ pos 0
+minus-le zero = leZ-yes tt
+minus-le (suc n) = leZ-yes tt
+
+-- a pair's right node hangs on its left one
+pair-hook : (nodes : ℕ) (x : Pair) → Hook nodes (separation-arcs x) (suc (x .left))
+pair-hook nodes x =
+    record {
+      arc = minimum-arc x;
+      listed = λ t a. and-left (t (minimum-arc x)) (all t (maximum-arc (x .maximum) (x .left) ∷ [])) a;
+      tail-is = refl;
+      hard = refl;
+      not-right = minus-le (x .minimum);
+      onto = inr (omega arith);
+    }
+
+-- each node behind the first of m pairs hangs on its left neighbour
+pairs-hook : (nodes m v : ℕ) (s : List ℕ) (u : ℕ) → v < u → u ≤ v + m → Hook nodes (flatMap separation-arcs (pairs-of m v s)) u
+unfolding flatMap
+pairs-hook nodes zero v s u h k = absurd (omega arith)
+pairs-hook nodes (suc m) v s u h k =
+    let x : Pair = record { left = v; minimum = getD s minimum-at 0; maximum = getD s maximum-at 0 } in
+    let rest : List Arc = flatMap separation-arcs (pairs-of m (suc v) (drop separation-stride s)) in
+    elim (ℕ-discrete u (suc v)) [
+      | yes e ↦ subst (λ (w : ℕ). Hook nodes (separation-arcs x ++ rest) w) (sym e) (hook-first (separation-arcs x) rest (pair-hook nodes x))
+      | no ne ↦ hook-second (separation-arcs x) rest (pairs-hook nodes m (suc v) (drop separation-stride s) u (later u v h ne) (omega arith))
+    ]
+  where
+    later : (u v : ℕ) → v < u → (u ≡ suc v → ⊥) → suc v < u
+    later u v h ne = omega arith
+
+-- a layer's first node hangs on ground
+first-hook : (width ground : ℕ) (l : Layer) → Hook ground (layer-arcs width ground l) (l .first)
+first-hook width ground l =
+    record {
+      arc = upper-bound (l .first) ground (pos 0);
+      listed = λ t a. and-left (t (upper-bound (l .first) ground (pos 0))) (all t (flatMap separation-arcs (l .pairs) ++ upper-bound ground (l .first + length (l .pairs)) (pos width) ∷ [])) a;
+      tail-is = refl;
+      hard = refl;
+      not-right = leZ-yes tt;
+      onto = inl (omega arith);
+    }
+
+-- each node of a layer hangs
+layer-hook : (width ground c v : ℕ) (s : List ℕ) (u : ℕ) → v ≤ u → u < v + c → Hook ground (layer-arcs width ground (record { first = v; pairs = pairs-of (c - 1) v s })) u
+layer-hook width ground c v s u h k =
+    let l : Layer = record { first = v; pairs = pairs-of (c - 1) v s } in
+    let left : List Arc = upper-bound v ground (pos 0) ∷ [] in
+    let pairs : List Arc = flatMap separation-arcs (l .pairs) in
+    let right : List Arc = upper-bound ground (v + length (l .pairs)) (pos width) ∷ [] in
+    elim (ℕ-discrete u v) [
+      | yes e ↦ subst (λ (w : ℕ). Hook ground (layer-arcs width ground l) w) (sym e) (first-hook width ground l)
+      | no ne ↦ hook-second left (pairs ++ right) (hook-first pairs right (pairs-hook ground (c - 1) v s u (later u v h ne) (omega arith)))
+    ]
+  where
+    later : (u v : ℕ) → v ≤ u → (u ≡ v → ⊥) → v < u
+    later u v h ne = omega arith
+
+-- each node of k layers hangs
+layers-hook : (width ground k v : ℕ) (s : List ℕ) (u : ℕ) → v ≤ u → u < getD (first-nodes k v s) k 0 → Hook ground (flatMap (layer-arcs width ground) (layers-of k v s)) u
+unfolding flatMap
+layers-hook width ground zero v s u h i = absurd (omega arith)
+layers-hook width ground (suc k) v s u h i =
+    let c : ℕ = getD s nodes-at 0 in
+    let l : Layer = record { first = v; pairs = pairs-of (c - 1) v (drop separations-at s) } in
+    let rest : List Arc = flatMap (layer-arcs width ground) (layers-of k (v + c) (next-layer s)) in
+    elim (decLt u (v + c)) [
+      | yes here ↦ hook-first (layer-arcs width ground l) rest (layer-hook width ground c v (drop separations-at s) u h here)
+      | no past ↦ hook-second (layer-arcs width ground l) rest (layers-hook width ground k (v + c) (next-layer s) u (beyond u (v + c) past) i)
+    ]
+  where
+    beyond : (u w : ℕ) → (u < w → ⊥) → w ≤ u
+    beyond u w h = omega arith
+
+-- every node of a sheet hangs on ground
+pub sheet-hangs : (s : List ℕ) → Hangs (network (sheet-of s))
+unfolding network sheet-of
+sheet-hangs s =
+    record {
+      hook = λ v h.
+          hook-second (map edge-arc (sheet-of s .edges)) (flatMap (layer-arcs (sheet-of s .width) (sheet-of s .nodes)) (sheet-of s .layers))
+          (layers-hook (sheet-of s .width) (sheet-of s .nodes) (getD s layers-at 0) 0 (drop first-layer-at s) v zero-le h);
+    }
+
+-- every integer solution is a drawing, as natural numbers
+pub solution-drawing : (s : List ℕ) (q : List ℤ) → Feasible (network (sheet-of s)) q → (integers (map up q) ≡ q) × Drawing (sheet-of s) (map up q)
+solution-drawing s q f =
+    let e = natural-potentials (sheet-hangs s) q f in
+    (e, feasible-drawing s (map up q) (subst (Feasible (network (sheet-of s))) (sym e) f))

@@ -1,0 +1,29 @@
+-- Least total means the same for drawings and for source 004's assignments: each is one of the other, up to a shift, with the same total.
+--
+use mathlib.Core.List.{List}
+use Prim.Native.Nat.{ℕ, _≤_}
+use lib.IntN.{ℤ}
+use Rattle.network.specs.Network.{integers}
+use Rattle.drawing.specs.Sheet.{Sheet}
+use Rattle.drawing.specs.laws.Proper.{Proper}
+use Rattle.drawing.specs.Drawing.{LeastDrawing}
+use Rattle.drawing.specs.Assignment.{Assignment, total-lengthZ}
+use Rattle.drawing.specs.laws.Shift.{shifted, shifted-drawing, shifted-total, drawing-assignment, drawing-length}
+
+-- every assignment has at least this one's total length
+pub record LeastAssignment (S : Sheet) (x : List ℤ) : Type 0 where
+  pub assignment : Assignment S x
+  pub least : (z : List ℤ) → Assignment S z → total-lengthZ S x ≤ total-lengthZ S z
+
+module _ (S : Sheet) (proper : Proper S) where
+  pub drawing-least-assignment : (p : List ℕ) → LeastDrawing S p → LeastAssignment S (integers p)
+  drawing-least-assignment p m = record {
+    assignment = drawing-assignment S p (m .drawing);
+    least = λ z a. rw (drawing-length S p, ← shifted-total S proper z a) (m .least (shifted z) (shifted-drawing S proper z a));
+  }
+
+  pub assignment-least-drawing : (x : List ℤ) → LeastAssignment S x → LeastDrawing S (shifted x)
+  assignment-least-drawing x l = record {
+    drawing = shifted-drawing S proper x (l .assignment);
+    least = λ q d. rw (shifted-total S proper x (l .assignment), ← drawing-length S q) (l .least (integers q) (drawing-assignment S q d));
+  }

@@ -1,0 +1,111 @@
+-- What a row of a table of sheets says, from the sheet's bytes to the outcome, and one law: what a test that passes over a
+-- whole table shows.
+use Prim.Native.Nat.{ℕ}
+use mathlib.Core.Path.{_≡_, refl, _∙_, sym}
+use mathlib.Core.Bool.{Bool, true, false, not, _&&_}
+use mathlib.Core.List.{List, [], _∷_}
+use lib.Dec.{T, eqb, eqb→eq}
+use lib.IntN.{ℤ}
+use Rattle.leb128.specs.Format.{Result, reading}
+use Rattle.leb128.specs.Format.Result.{elements, refused}
+use Rattle.sheet.specs.Limits.{magic}
+use Rattle.sheet.specs.Grammar.{sheet}
+use Rattle.network.specs.Sums.{all}
+use Rattle.network.specs.laws.Tests.{and-left, and-right}
+use Rattle.drawing.specs.Sheet.{sheet-of}
+use Rattle.drawing.specs.Drawing.{Drawing, total-length, LeftmostDrawing}
+use Rattle.drawing.specs.Judged.{judged}
+use Rattle.drawing.specs.laws.Judged.{judged-accepted}
+use Rattle.drawing.specs.laws.NoDrawing.{shows-none, no-drawing}
+use Rattle.drawing.specs.laws.HeldOnly.{leftmost-test, test-leftmost}
+
+-- a sheet's outcome, with the list that shows it
+pub data Outcome : Type 0 where
+  -- drawn, with this total and these places; the checker says yes to the list
+  drawn : ℕ → List ℕ → List ℤ → Outcome
+  -- refusal 8
+  undrawable : List ℤ → Outcome
+  -- the checker says no to these places and this list
+  rejected : List ℕ → List ℤ → Outcome
+
+-- a sheet's bytes and its outcome
+pub record Row : Type 0 where
+  pub bytes : List ℕ
+  pub outcome : Outcome
+
+-- the places are the sheet's leftmost least drawing, the total is the sum of its lengths, and the list gets a yes
+pub record Drawn (numbers : List ℕ) (total : ℕ) (places : List ℕ) (list : List ℤ) : Type 0 where
+  pub leftmost : LeftmostDrawing (sheet-of numbers) places
+  pub sum : total-length (sheet-of numbers) places ≡ total
+  pub accepted : judged (sheet-of numbers) places list ≡ true
+
+-- what an outcome says of a sheet's numbers
+abbrev pub Says : List ℕ → Outcome → Type 0
+Says numbers (drawn total places list) = Drawn numbers total places list
+Says numbers (undrawable list) = (places : List ℕ) → Drawing (sheet-of numbers) places → ⊥
+Says numbers (rejected places list) = judged (sheet-of numbers) places list ≡ false
+
+-- what a row says: the bytes read as a good sheet, and its outcome is this
+pub record Holds (r : Row) : Type 0 where
+  pub numbers : List ℕ
+  pub read : reading magic sheet (r .bytes) ≡ elements numbers
+  pub says : Says numbers (r .outcome)
+
+-- a test that passes is true
+is-true : (b : Bool) → T b → b ≡ true
+is-true true t = refl
+is-true false t = absurd t
+
+-- a test whose negation passes is false
+is-false : (b : Bool) → T (not b) → b ≡ false
+is-false true t = absurd t
+is-false false t = refl
+
+-- the test of an outcome
+abbrev pub passes : List ℕ → Outcome → Bool
+passes numbers (drawn total places list) =
+    (judged (sheet-of numbers) places list && leftmost-test (sheet-of numbers) places list) && eqb (total-length (sheet-of numbers) places) total
+passes numbers (undrawable list) = shows-none (sheet-of numbers) list
+passes numbers (rejected places list) = not (judged (sheet-of numbers) places list)
+
+-- the test shows what the outcome says
+passes-says : (numbers : List ℕ) (o : Outcome) → T (passes numbers o) → Says numbers o
+passes-says numbers (drawn total places list) t =
+    let least : Bool = judged (sheet-of numbers) places list in
+    let leftmost : Bool = leftmost-test (sheet-of numbers) places list in
+    let equal : Bool = eqb (total-length (sheet-of numbers) places) total in
+    let both : T (least && leftmost) = and-left (least && leftmost) equal t in
+    record {
+      leftmost = test-leftmost numbers places list (judged-accepted numbers places list (and-left least leftmost both)) (and-right least leftmost both);
+      sum = eqb→eq (total-length (sheet-of numbers) places) total (and-right (least && leftmost) equal t);
+      accepted = is-true least (and-left least leftmost both);
+    }
+passes-says numbers (undrawable list) t = no-drawing (sheet-of numbers) list t
+passes-says numbers (rejected places list) t = is-false (judged (sheet-of numbers) places list) t
+
+-- the test of what reading gives
+abbrev pub passes-read : Result → Outcome → Bool
+passes-read (elements numbers) o = passes numbers o
+passes-read (refused r) o = false
+
+-- the test of a row
+abbrev pub passed : Row → Bool
+passed r = passes-read (reading magic sheet (r .bytes)) (r .outcome)
+
+-- a row that passes holds
+passed-holds : (r : Row) → T (passed r) → Holds r
+passed-holds r t = go (reading magic sheet (r .bytes)) refl t
+  where
+    go : (result : Result) → reading magic sheet (r .bytes) ≡ result → T (passes-read result (r .outcome)) → Holds r
+    go (elements numbers) e t = record { numbers = numbers; read = e; says = passes-says numbers (r .outcome) t }
+    go (refused why) e t = absurd t
+
+-- every row holds
+abbrev pub Every : List Row → Type 0
+Every [] = Unit {0}
+Every (r ∷ rows) = Holds r × Every rows
+
+-- a table that passes holds
+pub every : (rows : List Row) → T (all passed rows) → Every rows
+every [] t = tt
+every (r ∷ rows) t = (passed-holds r (and-left (passed r) (all passed rows) t), every rows (and-right (passed r) (all passed rows) t))

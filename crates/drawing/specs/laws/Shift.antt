@@ -1,0 +1,190 @@
+-- Source 004's assignments are the drawings up to a shift, with the same total: subtract the least coordinate.
+use mathlib.Core.Path.{_≡_, refl, sym, _∙_, ap, ap₂, subst, fun-ext}
+use mathlib.Core.List.{List, [], _∷_, map}
+use mathlib.Core.Bool.{Bool, _&&_}
+use Prim.Native.Nat.{ℕ, zero, suc, _+_, _-_, _≤_, _<_, zero-le}
+use native.Mathlib.Nat.{le-of-suc-le-suc, not-suc-le-zero}
+use native.Mathlib.Omega.{arith}
+use lib.Dec.{T, ltb, ltb→lt, leb, leb→le, le→leb, eqb, eqb-refl}
+use lib.ListN.{length, getD, length-map, List·getD-map}
+use lib.IntN.{ℤ, pos, negℤ, _+ℤ_, _-ℤ_, natAbs}
+use lib.Signed.{_≤ℤ_, leZ, ltZ, leZ-yes, ltZ-no, ≤ℤ-refl}
+use Rattle.network.specs.laws.IntegerParts.{up, down, le-parts, parts-le, sum-parts, up-neg, down-neg, min-parts}
+use Rattle.network.specs.laws.Integers.{gap, gap-is, eqZ→eq}
+use Rattle.network.specs.laws.Sizes.{size-parts}
+use Rattle.network.specs.Sums.{sumℕ, all}
+use Rattle.network.specs.laws.Tests.{not-not, and-left, and-right, and-both, all-map₂, all-ext}
+use Rattle.network.specs.laws.Sums.{sumℕ-ext}
+use Rattle.network.specs.Network.{potential, integers}
+use Rattle.drawing.specs.Assignment.{least-of, greatest-of, extent, within-maximumZ, separatedZ, alignedZ, edge-alignedZ, Assignment, edge-lengthZ, total-lengthZ}
+use Rattle.drawing.specs.laws.Extents.{least-le, le-greatest, least-is, greatest-is}
+use Rattle.drawing.specs.Sheet.{Pair, Edge, Sheet}
+use Rattle.drawing.specs.Drawing.{coordinate, within-maximum, separated, aligned, edge-aligned, Drawing, edge-length, total-length}
+use Rattle.drawing.specs.laws.SameDrawings.{inside-at, at-inside}
+use Rattle.sheet.specs.Limits.{max-separation, max-kind}
+use Rattle.drawing.specs.laws.Good.{not-crossed}
+use Rattle.drawing.specs.laws.Proper.{proper-pair, proper-edge, Proper}
+
+abbrev pub shifted : List ℤ → List ℕ
+shifted x = map (gap (least-of x)) x
+
+mapped : {A B : Type 0} (f : A → B) (xs : List A) (d : A) (e : B) (v : ℕ) → v < length xs → getD (map f xs) v e ≡ f (getD xs v d)
+mapped f [] d e v h = absurd (not-suc-le-zero h)
+mapped f (x ∷ xs) d e zero h = refl
+mapped f (x ∷ xs) d e (suc v) h = mapped f xs d e v (le-of-suc-le-suc h)
+
+module _ (x : List ℤ) where
+  -- a coordinate is the least one and the place more
+  shift-parts : (v : ℕ) → v < length x → up (potential x v) + down (least-of x) ≡ down (potential x v) + (up (least-of x) + coordinate (shifted x) v)
+  unfolding up down
+  shift-parts v h =
+      let m : ℤ = least-of x in
+      let k : ℕ = gap m (potential x v) in
+      let e : potential x v ≡ m +ℤ pos k = gap-is (least-le x v h) in
+      omega (arith, ap up e, ap down e, sum-parts m (pos k), mapped (gap m) x (pos 0) 0 v h)
+
+  module _ (u v : ℕ) (hu : u < length x) (hv : v < length x) where
+    shift-least : (d : ℕ) → T (leZ (potential x u +ℤ pos d) (potential x v)) → T (leb (coordinate (shifted x) u + d) (coordinate (shifted x) v))
+    unfolding up down
+    shift-least d t = le→leb (coordinate (shifted x) u + d) (coordinate (shifted x) v)
+        (omega (arith, le-parts {a = potential x u +ℤ pos d} {b = potential x v} (leZ-yes t), sum-parts (potential x u) (pos d), shift-parts u hu, shift-parts v hv))
+
+    shift-near : (g : ℕ) → T (within-maximumZ g (potential x u) (potential x v)) → T (within-maximum g (coordinate (shifted x) u) (coordinate (shifted x) v))
+    unfolding up down
+    shift-near zero t = tt
+    shift-near (suc g) t = le→leb (coordinate (shifted x) v) (coordinate (shifted x) u + suc g)
+        (omega (arith, le-parts {a = potential x v} {b = potential x u +ℤ pos (suc g)} (leZ-yes t), sum-parts (potential x u) (pos (suc g)), shift-parts u hu, shift-parts v hv))
+
+    shift-same : (kind : ℕ) → T (alignedZ kind (potential x u) (potential x v)) → T (aligned kind (coordinate (shifted x) u) (coordinate (shifted x) v))
+    shift-same zero t = tt
+    shift-same (suc kind) t =
+        let e : potential x u ≡ potential x v = eqZ→eq (potential x u) (potential x v) t in
+        subst (λ (n : ℕ). T (eqb (coordinate (shifted x) u) n)) (omega (arith, ap up e, ap down e, shift-parts u hu, shift-parts v hv)) (eqb-refl (coordinate (shifted x) u))
+
+    shift-length : (coordinate (shifted x) v - coordinate (shifted x) u) + (coordinate (shifted x) u - coordinate (shifted x) v) ≡ natAbs (potential x v -ℤ potential x u)
+    shift-length = omega (
+      arith,
+      size-parts (potential x v -ℤ potential x u),
+      min-parts (potential x v -ℤ potential x u),
+      sum-parts (potential x v) (negℤ (potential x u)),
+      up-neg (potential x u),
+      down-neg (potential x u),
+      shift-parts u hu,
+      shift-parts v hv,
+    )
+
+  shift-inside : (w : ℕ) → extent x ≤ℤ pos w → (v : ℕ) → v < length x → coordinate (shifted x) v ≤ w
+  unfolding up down
+  shift-inside w h v l = omega (
+    arith,
+    le-parts h,
+    le-parts (le-greatest x v l),
+    sum-parts (greatest-of x) (negℤ (least-of x)),
+    up-neg (least-of x),
+    down-neg (least-of x),
+    shift-parts v l,
+  )
+
+less : (a b : ℤ) (k : ℕ) → 1 ≤ k → T (leZ (a +ℤ pos k) b) → T (ltZ a b)
+unfolding up down
+less a b k h t = not-not (ltZ a b) (λ n. omega (arith, le-parts {a = b} {b = a} (ltZ-no n), le-parts {a = a +ℤ pos k} {b = b} (leZ-yes t), sum-parts a (pos k)))
+
+module _ (S : Sheet) (proper : Proper S) (x : List ℤ) (a : Assignment S x) where
+  inside : (v : ℕ) → T (ltb v (S .nodes)) → v < length x
+  inside v t = omega (arith, ltb→lt v (S .nodes) t, a .size)
+
+  -- the two ends of an edge are nodes
+  ends : (e : Edge) → T (proper-edge (S .nodes) e) → (e .upper < length x) × (e .lower < length x)
+  ends e t =
+      let both : T (ltb (e .upper) (S .nodes) && ltb (e .lower) (S .nodes)) = and-left (ltb (e .upper) (S .nodes) && ltb (e .lower) (S .nodes)) (leb (e .kind) max-kind) t in (
+        inside (e .upper) (and-left (ltb (e .upper) (S .nodes)) (ltb (e .lower) (S .nodes)) both),
+        inside (e .lower) (and-right (ltb (e .upper) (S .nodes)) (ltb (e .lower) (S .nodes)) both),
+      )
+
+  separated-shifted : (n : Pair) → T (proper-pair (S .nodes) n) → T (separatedZ x n) → T (separated (shifted x) n)
+  separated-shifted n i t =
+      let p : List ℕ = shifted x in
+      let l : ℕ = n .left in
+      let limits : Bool = (leb 1 (n .minimum) && leb (n .minimum) max-separation) && (leb (n .maximum) max-separation && not-crossed (n .minimum) (n .maximum)) in
+      let hr : suc l < length x = inside (suc l) (and-left (ltb (suc l) (S .nodes)) limits i) in
+      let hl : l < length x = omega arith in
+      let least : Bool = leZ (potential x l +ℤ pos (n .minimum)) (potential x (suc l)) in
+      let close : Bool = within-maximumZ (n .maximum) (potential x l) (potential x (suc l)) in
+      and-both (leb (coordinate p l + n .minimum) (coordinate p (suc l))) (within-maximum (n .maximum) (coordinate p l) (coordinate p (suc l)))
+      (shift-least x l (suc l) hl hr (n .minimum) (and-left least close t)) (shift-near x l (suc l) hl hr (n .maximum) (and-right least close t))
+
+  pub shifted-drawing : Drawing S (shifted x)
+  shifted-drawing = record {
+    size = length-map x (gap (least-of x)) ∙ a .size;
+    inside = at-inside (S .width) (shifted x) (λ v h. shift-inside x (S .width) (a .narrow) v (rw (length-map x (gap (least-of x))) at h));
+    separations = all-map₂ (λ l. all (proper-pair (S .nodes)) (l .pairs)) (λ l. all (separatedZ x) (l .pairs)) (λ l. all (separated (shifted x)) (l .pairs))
+        (λ l. all-map₂ (proper-pair (S .nodes)) (separatedZ x) (separated (shifted x)) separated-shifted (l .pairs)) (S .layers) (proper .pairs) (a .separations);
+    straight = all-map₂ (proper-edge (S .nodes)) (edge-alignedZ x) (edge-aligned (shifted x))
+        (λ e i. shift-same x (e .upper) (e .lower) (ends e i .0) (ends e i .1) (e .kind)) (S .edges) (proper .ends) (a .straight);
+  }
+
+  pub shifted-total : total-length S (shifted x) ≡ total-lengthZ S x
+  unfolding total-length total-lengthZ
+  shifted-total = sumℕ-ext (proper-edge (S .nodes)) (edge-length (shifted x)) (edge-lengthZ x)
+      (λ e i. shift-length x (e .upper) (e .lower) (ends e i .0) (ends e i .1)) (S .edges) (proper .ends)
+
+  -- source 004's order: x(u) < x(v) for a node u and its right neighbour v
+  pub ordered : T (all (λ l. all (λ n. ltZ (potential x (n .left)) (potential x (suc (n .left)))) (l .pairs)) (S .layers))
+  ordered = all-map₂ (λ l. all (proper-pair (S .nodes)) (l .pairs)) (λ l. all (separatedZ x) (l .pairs)) (λ l. all (λ n. ltZ (potential x (n .left)) (potential x (suc (n .left)))) (l .pairs))
+      (λ l. all-map₂ (proper-pair (S .nodes)) (separatedZ x) (λ n. ltZ (potential x (n .left)) (potential x (suc (n .left)))) before (l .pairs)) (S .layers) (proper .pairs) (a .separations)
+    where
+      before : (n : Pair) → T (proper-pair (S .nodes) n) → T (separatedZ x n) → T (ltZ (potential x (n .left)) (potential x (suc (n .left))))
+      before n i t =
+          let l : ℤ = potential x (n .left) in
+          let r : ℤ = potential x (suc (n .left)) in
+          let low : Bool = leb 1 (n .minimum) && leb (n .minimum) max-separation in
+          let high : Bool = leb (n .maximum) max-separation && not-crossed (n .minimum) (n .maximum) in
+          less l r (n .minimum) (leb→le 1 (n .minimum) (and-left (leb 1 (n .minimum)) (leb (n .minimum) max-separation) (and-left low high (and-right (ltb (suc (n .left)) (S .nodes)) (low && high) i))))
+          (and-left (leZ (l +ℤ pos (n .minimum)) r) (within-maximumZ (n .maximum) l r) t)
+
+module _ (p : List ℕ) where
+  integer-coordinate : (v : ℕ) → potential (integers p) v ≡ pos (coordinate p v)
+  integer-coordinate v = List·getD-map pos p v 0
+
+  far-is : (d u v : ℕ) → leZ (potential (integers p) u +ℤ pos d) (potential (integers p) v) ≡ leb (coordinate p u + d) (coordinate p v)
+  far-is d u v = rw (integer-coordinate u, integer-coordinate v)
+
+  near-is : (g u v : ℕ) → within-maximumZ g (potential (integers p) u) (potential (integers p) v) ≡ within-maximum g (coordinate p u) (coordinate p v)
+  near-is zero u v = refl
+  near-is (suc g) u v = rw (integer-coordinate u, integer-coordinate v)
+
+  same-is : (kind u v : ℕ) → alignedZ kind (potential (integers p) u) (potential (integers p) v) ≡ aligned kind (coordinate p u) (coordinate p v)
+  same-is zero u v = refl
+  same-is (suc kind) u v = rw (integer-coordinate u, integer-coordinate v)
+
+  separated-is : (n : Pair) → separatedZ (integers p) n ≡ separated p n
+  separated-is n = ap₂ _&&_ (far-is (n .minimum) (n .left) (suc (n .left))) (near-is (n .maximum) (n .left) (suc (n .left)))
+
+  length-is : (e : Edge) → edge-lengthZ (integers p) e ≡ edge-length p e
+  unfolding up down
+  length-is e = rw (integer-coordinate (e .lower), integer-coordinate (e .upper)) (omega (
+    arith,
+    size-parts (pos (coordinate p (e .lower)) -ℤ pos (coordinate p (e .upper))),
+    min-parts (pos (coordinate p (e .lower)) -ℤ pos (coordinate p (e .upper))),
+    sum-parts (pos (coordinate p (e .lower))) (negℤ (pos (coordinate p (e .upper)))),
+    up-neg (pos (coordinate p (e .upper))),
+    down-neg (pos (coordinate p (e .upper))),
+  ))
+
+module _ (S : Sheet) (p : List ℕ) where
+  pub drawing-assignment : Drawing S p → Assignment S (integers p)
+  unfolding up down
+  drawing-assignment d = record {
+    size = length-map p pos ∙ d .size;
+    separations = subst T (sym (all-ext (λ l. all (separatedZ (integers p)) (l .pairs)) (λ l. all (separated p) (l .pairs)) (λ l. all-ext (separatedZ (integers p)) (separated p) (separated-is p) (l .pairs)) (S .layers))) (d .separations);
+    straight = subst T (sym (all-ext (edge-alignedZ (integers p)) (edge-aligned p) (λ e. same-is p (e .kind) (e .upper) (e .lower)) (S .edges))) (d .straight);
+    narrow =
+        let low : pos 0 ≤ℤ least-of (integers p) = least-is (λ z. pos 0 ≤ℤ z) (≤ℤ-refl (pos 0)) (integers p) (λ v. rw (integer-coordinate p v) (leZ-yes (le→leb 0 (coordinate p v) zero-le))) in
+        let high : greatest-of (integers p) ≤ℤ pos (S .width) = greatest-is (λ z. z ≤ℤ pos (S .width)) (leZ-yes (le→leb 0 (S .width) zero-le)) (integers p)
+        (λ v. rw (integer-coordinate p v) (leZ-yes (le→leb (coordinate p v) (S .width) (inside-at (S .width) p (d .inside) v)))) in
+        parts-le (extent (integers p)) (pos (S .width)) (omega (arith, le-parts low, le-parts high, sum-parts (greatest-of (integers p)) (negℤ (least-of (integers p))), up-neg (least-of (integers p)), down-neg (least-of (integers p))));
+  }
+
+  pub drawing-length : total-lengthZ S (integers p) ≡ total-length S p
+  unfolding total-length total-lengthZ
+  drawing-length = ap (λ (f : Edge → ℕ). sumℕ f (S .edges)) (fun-ext (length-is p))

@@ -1,0 +1,1 @@
+// Drawings of a sheet, their totals and certificates: definitions and theory. There is no code here.

@@ -1,0 +1,6 @@
+pub mod Integers
+pub mod Sums
+pub mod Network
+pub mod Flows
+pub mod Packed
+pub mod laws

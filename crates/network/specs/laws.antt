@@ -1,0 +1,15 @@
+pub mod IntegerParts
+pub mod Integers
+pub mod Sizes
+pub mod Tests
+pub mod Sums
+pub mod Indexed
+pub mod ArcSlack
+pub mod ByParts
+pub mod Duality
+pub mod Unique
+pub mod NoSolution
+pub mod Certified
+pub mod Differences
+pub mod PackedBack
+pub mod Hanging

@@ -1,0 +1,64 @@
+-- Complementary slackness as differences: a tight arc says at most two things, that its tension is at most the kink unless the flow
+-- is the high limit, and at least the kink unless it is the low limit.
+use Prim.Native.Nat.{ℕ, zero, suc, _≤_, zero-le}
+use mathlib.Core.Bool.{not}
+use mathlib.Core.List.{List}
+use native.Mathlib.Omega.{arith}
+use lib.Dec.{T, T-not, leb→le, le→leb}
+use lib.IntN.{ℤ, pos, negsuc, negℤ, _+ℤ_, _-ℤ_}
+use lib.Signed.{_≤ℤ_, leZ-yes}
+use Rattle.network.specs.Network.{reached, Arc, potential, past-kink}
+use Rattle.network.specs.Flows.{Flow, tight-at, tight}
+use Rattle.network.specs.laws.IntegerParts.{up, down, le-parts, parts-le, up-neg, down-neg, sum-parts}
+use Rattle.network.specs.laws.Tests.{not-not}
+
+module _ (h t k : ℤ) where
+  -- a tension that is not past the kink, as a difference of potentials
+  not-past : ((h -ℤ t) -ℤ k) ≤ℤ pos 0 → (h -ℤ k) ≤ℤ t
+  unfolding up down
+  not-past le =
+      parts-le (h -ℤ k) t
+      (omega (arith, le-parts le, sum-parts (h -ℤ t) (negℤ k), sum-parts h (negℤ t), sum-parts h (negℤ k), up-neg t, down-neg t, up-neg k, down-neg k))
+
+  -- a tension that is not before the kink
+  not-before : pos 0 ≤ℤ ((h -ℤ t) -ℤ k) → (t +ℤ k) ≤ℤ h
+  unfolding up down
+  not-before le =
+      parts-le (t +ℤ k) h
+      (omega (arith, le-parts le, sum-parts (h -ℤ t) (negℤ k), sum-parts h (negℤ t), sum-parts t k, up-neg t, down-neg t, up-neg k, down-neg k))
+
+module _ (a : Arc) (y : ℤ) where
+  -- a tight arc whose flow is not the high limit is not past its kink
+  pub tight-high : (d : ℤ) → T (tight-at a y d) → T (not (reached (a .high) y)) → d ≤ℤ pos 0
+  tight-high (pos zero) t n = leZ-yes tt
+  tight-high (pos (suc k)) t n = absurd (T-not (reached (a .high) y) n t)
+  tight-high (negsuc k) t n = leZ-yes tt
+
+  -- a tight arc whose flow is not the low limit is not before its kink
+  pub tight-low : (d : ℤ) → T (tight-at a y d) → T (not (reached (a .low) y)) → pos 0 ≤ℤ d
+  tight-low (pos k) t n = record { le = le→leb 0 k zero-le }
+  tight-low (negsuc k) t n = absurd (T-not (reached (a .low) y) n t)
+
+  -- and these are all that a tight arc says
+  pub differences-tight : (d : ℤ) → (T (not (reached (a .high) y)) → d ≤ℤ pos 0) → (T (not (reached (a .low) y)) → pos 0 ≤ℤ d)
+      → T (tight-at a y d)
+  differences-tight (pos zero) f g = tt
+  differences-tight (pos (suc k)) f g = not-not (reached (a .high) y) (λ n. positive k (leb→le (suc k) 0 (f n .le)))
+    where
+      positive : (k : ℕ) → suc k ≤ 0 → ⊥
+      positive k h = omega arith
+  differences-tight (negsuc k) f g = not-not (reached (a .low) y) (λ n. g n .le)
+
+-- a tight flow that is not the high limit bounds the head's potential by the tail's
+pub high-difference : (p : List ℤ) (f : Flow) → T (tight p f) → T (not (reached (f .on .high) (f .amount)))
+    → (potential p (f .on .head) -ℤ f .on .kink) ≤ℤ potential p (f .on .tail)
+high-difference p f t n =
+    not-past (potential p (f .on .head)) (potential p (f .on .tail)) (f .on .kink)
+    (tight-high (f .on) (f .amount) (past-kink p (f .on)) t n)
+
+-- a tight flow that is not the low limit bounds the tail's potential by the head's
+pub low-difference : (p : List ℤ) (f : Flow) → T (tight p f) → T (not (reached (f .on .low) (f .amount)))
+    → (potential p (f .on .tail) +ℤ f .on .kink) ≤ℤ potential p (f .on .head)
+low-difference p f t n =
+    not-before (potential p (f .on .head)) (potential p (f .on .tail)) (f .on .kink)
+    (tight-low (f .on) (f .amount) (past-kink p (f .on)) t n)

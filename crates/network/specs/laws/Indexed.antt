@@ -1,0 +1,108 @@
+-- Lists by index, as loops make and read them: one more element, and the element at an index, of a list, a test, a sum and
+-- of a network's flows.
+use Prim.Native.Nat.{ℕ, zero, suc, _+_, _<_}
+use mathlib.Core.Path.{_≡_, refl, sym, _∙_, ap, ap₂}
+use mathlib.Core.Bool.{Bool}
+use mathlib.Core.List.{List, [], _∷_, _++_, map}
+use native.Mathlib.Nat.{add-zero, le-of-suc-le-suc, not-suc-le-zero}
+use native.Mathlib.Numerals.{add-one}
+use native.Mathlib.Omega.{arith}
+use lib.Dec.{T}
+use lib.IntN.{ℤ, pos, _+ℤ_, +ℤ-idr}
+use lib.ListN.{length, getD, drop, take, length-append, length-map}
+use lib.Seq.{getD-drop, take-suc}
+use Rattle.network.specs.Sums.{sum, sumℕ, all, upto}
+use Rattle.network.specs.Network.{Arc}
+use Rattle.network.specs.Flows.{Flow, flows}
+use Rattle.network.specs.laws.Tests.{and-left, and-right, and-both}
+use Rattle.network.specs.laws.Sums.{sum-append, sumℕ-append}
+
+module _ {A : Type 0} where
+  -- one more element
+  pub upto-next : (n : ℕ) (f : ℕ → A) → upto (n + 1) f ≡ upto n f ++ (f n ∷ [])
+  unfolding upto
+  upto-next n f = rw add-one
+
+  -- how many elements
+  pub upto-length : (n : ℕ) (f : ℕ → A) → length (upto n f) ≡ n
+  unfolding upto
+  upto-length zero f = refl
+  upto-length (suc n) f = length-append (upto n f) (f n ∷ []) ∙ omega (arith, upto-length n f)
+
+  -- equal elements
+  pub upto-ext : (n : ℕ) (f g : ℕ → A) → ((i : ℕ) → i < n → f i ≡ g i) → upto n f ≡ upto n g
+  unfolding upto
+  upto-ext zero f g e = refl
+  upto-ext (suc n) f g e = ap₂ (λ (l : List A) (x : A). l ++ (x ∷ [])) (upto-ext n f g (λ i h. e i (omega arith))) (e n (omega arith))
+
+  -- the first element, and the others
+  pub upto-first : (n : ℕ) (f : ℕ → A) → upto (suc n) f ≡ f 0 ∷ upto n (λ i. f (suc i))
+  unfolding upto
+  upto-first zero f = refl
+  upto-first (suc n) f = ap (λ (l : List A). l ++ (f (suc n) ∷ [])) (upto-first n f)
+
+  -- a test that passes at each element, at an index
+  pub all-at : (t : A → Bool) (xs : List A) (d : A) → T (all t xs) → (i : ℕ) → i < length xs → T (t (getD xs i d))
+  all-at t [] d a i h = absurd (not-suc-le-zero h)
+  all-at t (x ∷ xs) d a zero h = and-left (t x) (all t xs) a
+  all-at t (x ∷ xs) d a (suc i) h = all-at t xs d (and-right (t x) (all t xs) a) i (le-of-suc-le-suc h)
+
+  -- a test that passes at each index
+  pub at-all : (t : A → Bool) (xs : List A) (d : A) → ((i : ℕ) → i < length xs → T (t (getD xs i d))) → T (all t xs)
+  at-all t [] d f = tt
+  at-all t (x ∷ xs) d f = and-both (t x) (all t xs) (f 0 (omega arith)) (at-all t xs d (λ i h. f (suc i) (omega arith)))
+
+  -- one more term of a sum
+  pub sum-suc : (f : A → ℤ) (xs : List A) (d : A) (i : ℕ) → i < length xs
+      → sum f (take (suc i) xs) ≡ sum f (take i xs) +ℤ f (getD xs i d)
+  sum-suc f xs d i h =
+      ap (sum f) (take-suc xs i d h) ∙ sum-append f (take i xs) (getD xs i d ∷ [])
+      ∙ ap (λ (z : ℤ). sum f (take i xs) +ℤ z) (+ℤ-idr (f (getD xs i d)))
+
+  -- the same in natural numbers
+  pub sumℕ-suc : (f : A → ℕ) (xs : List A) (d : A) (i : ℕ) → i < length xs
+      → sumℕ f (take (suc i) xs) ≡ sumℕ f (take i xs) + f (getD xs i d)
+  sumℕ-suc f xs d i h =
+      ap (sumℕ f) (take-suc xs i d h) ∙ sumℕ-append f (take i xs) (getD xs i d ∷ [])
+      ∙ ap (λ (n : ℕ). sumℕ f (take i xs) + n) (add-zero (f (getD xs i d)))
+
+-- the flows are on the arcs, one on each
+pub flows-on : (arcs : List Arc) (y : List ℤ) → map (λ f. f .on) (flows arcs y) ≡ arcs
+flows-on [] y = refl
+flows-on (a ∷ arcs) y = ap (λ (l : List Arc). a ∷ l) (flows-on arcs (drop 1 y))
+
+-- as many flows as arcs
+pub length-flows : (arcs : List Arc) (y : List ℤ) → length (flows arcs y) ≡ length arcs
+length-flows arcs y = sym (length-map (flows arcs y) (λ f. f .on)) ∙ ap length (flows-on arcs y)
+
+-- flow i is number i on arc i
+pub flows-at : (arcs : List Arc) (y : List ℤ) (a : Arc) (f : Flow) (i : ℕ) → i < length arcs
+    → getD (flows arcs y) i f ≡ record { on = getD arcs i a; amount = getD y i (pos 0) }
+flows-at [] y a f i h = absurd (not-suc-le-zero h)
+flows-at (b ∷ arcs) y a f zero h = refl
+flows-at (b ∷ arcs) y a f (suc i) h =
+    flows-at arcs (drop 1 y) a f i (le-of-suc-le-suc h)
+    ∙ ap (λ (x : ℤ). record { on = getD arcs i a; amount = x }) (getD-drop 1 y i (pos 0) ∙ ap (λ (n : ℕ). getD y n (pos 0)) (omega arith))
+
+-- the flows on arcs that are given by index: number i on arc i
+pub flows-upto : (f : ℕ → Arc) (y : List ℤ) (n : ℕ)
+    → flows (upto n f) y ≡ upto n (λ i. record { on = f i; amount = getD y i (pos 0) })
+unfolding upto
+flows-upto f y zero = refl
+flows-upto f y (suc n) =
+    ap (λ (arcs : List Arc). flows arcs y) (upto-first n f)
+    ∙ ap (λ (l : List Flow). record { on = f 0; amount = getD y 0 (pos 0) } ∷ l)
+    (flows-upto (λ i. f (suc i)) (drop 1 y) n ∙ upto-ext n _ _ (λ i h. next i))
+    ∙ sym (upto-first n (λ i. record { on = f i; amount = getD y i (pos 0) }))
+  where
+    next : (i : ℕ)
+        → _≡_ {A = Flow} (record { on = f (suc i); amount = getD (drop 1 y) i (pos 0) }) (record { on = f (suc i); amount = getD y (suc i) (pos 0) })
+    next i = ap (λ (x : ℤ). record { on = f (suc i); amount = x })
+        (getD-drop 1 y i (pos 0) ∙ ap (λ (k : ℕ). getD y k (pos 0)) (omega arith))
+
+-- a list that ends with what stands past it, as potentials with ground's 0 behind them
+pub at-ground : {A : Type 0} (d : A) (p : List A) (v : ℕ) → getD (p ++ (d ∷ [])) v d ≡ getD p v d
+at-ground d [] zero = refl
+at-ground d [] (suc v) = refl
+at-ground d (x ∷ p) zero = refl
+at-ground d (x ∷ p) (suc v) = at-ground d p v
