@@ -1,29 +1,15 @@
-//! The test cases: lines of input, each with the line of output that this package computes.
+//! The cases of the program `library_test`: lines of input, each with the line of output that
+//! this package computes.
 //!
 //! A line that starts with `#` names the cases below it; the output repeats it. Any other line
-//! holds an operation letter, ROOM and AT in four hexadecimal digits each, and a payload in
-//! hexadecimal digits, with a space between them:
-//!
-//! - `R` reads the sheet whose bytes are the payload into a slice of ROOM numbers.
-//! - `W` writes the sheet whose numbers are the payload into a slice of ROOM bytes.
-//! - `G` reads one number at position AT of the payload's bytes.
-//! - `P` writes one number, the payload, at position AT of a slice of ROOM bytes.
-//!
-//! The answer is followed by every element of the slice, as it is after the call.
+//! holds an operation letter, two numbers in four hexadecimal digits each, and a payload in
+//! hexadecimal digits, with a space between them.
 
-mod damage;
-mod document;
-mod limits;
+pub mod check;
+pub mod format;
 mod line;
-mod numbers;
-mod order;
-mod size;
 
-use crate::draft::encode;
 pub use line::Line;
-
-/// The length of the slice where a long input is refused; it keeps the files small.
-const BRIEF: usize = 4;
 
 /// Test cases that belong together.
 pub struct Group {
@@ -43,39 +29,6 @@ impl Group {
         self.lines.push(Line::comment(text));
     }
 
-    /// Adds a case that reads a sheet.
-    fn read(&mut self, bytes: &[u8], room: usize) {
-        self.lines.push(Line::read(bytes, room));
-    }
-
-    /// Adds a case that writes a sheet.
-    fn write(&mut self, numbers: &[u16], room: usize) {
-        self.lines.push(Line::write(numbers, room));
-    }
-
-    /// Adds a case that reads one number.
-    fn read_number(&mut self, bytes: &[u8], at: usize) {
-        self.lines.push(Line::read_number(bytes, at));
-    }
-
-    /// Adds a case that writes one number.
-    fn write_number(&mut self, n: u32, at: usize, room: usize) {
-        self.lines.push(Line::write_number(n, at, room));
-    }
-
-    /// Adds cases that read and write a sheet, good or bad, with this many elements too many.
-    fn both(&mut self, numbers: &[u16], excess: usize) {
-        let bytes = encode(numbers);
-        self.read(&bytes, numbers.len() + excess);
-        self.write(numbers, bytes.len() + excess);
-    }
-
-    /// Adds cases that read and write a bad sheet with many numbers; the slices are short.
-    fn both_briefly(&mut self, numbers: &[u16]) {
-        self.read(&encode(numbers), BRIEF);
-        self.write(numbers, BRIEF);
-    }
-
     /// How many cases the group has, not counting the lines that name them.
     pub fn count(&self) -> usize {
         self.lines.iter().filter(|line| !line.is_comment()).count()
@@ -84,33 +37,20 @@ impl Group {
 
 /// All groups, in the order of the files.
 pub fn groups() -> Vec<Group> {
-    vec![
-        numbers::published(),
-        numbers::limits(),
-        document::refusals(),
-        document::sheets(),
-        document::widths(),
-        limits::layers_and_nodes(),
-        limits::separations(),
-        limits::edges(),
-        size::largest(),
-        size::rooms(),
-        order::reading(),
-        order::writing(),
-        damage::sheets(),
-        damage::lists(),
-    ]
+    let mut groups = format::groups();
+    groups.extend(check::groups());
+    groups
 }
 
-/// The contents of the files `stdin` and `stdout`.
-pub fn files() -> (String, String) {
+/// The names and contents of the program's files for these groups.
+pub fn files(groups: &[Group]) -> [(&'static str, String); 2] {
     let mut input = String::new();
     let mut output = String::new();
-    for line in groups().iter().flat_map(|group| &group.lines) {
+    for line in groups.iter().flat_map(|group| &group.lines) {
         input.push_str(&line.input);
         input.push('\n');
         output.push_str(&line.output);
         output.push('\n');
     }
-    (input, output)
+    [("stdin", input), ("stdout", output)]
 }

@@ -1,5 +1,6 @@
 //! Sheets in their parts, from which the test cases are made.
 
+use crate::drawing::Sheet;
 use crate::number;
 use crate::sheet::SIGNATURE;
 
@@ -74,6 +75,11 @@ impl Draft {
             numbers.extend([edge.layer, edge.upper, edge.lower, edge.kind]);
         }
         numbers
+    }
+
+    /// The sheet as its number list gives it; its numbers must be within their limits.
+    pub fn sheet(&self) -> Sheet {
+        Sheet::from_numbers(&self.numbers())
     }
 
     /// The bytes of the sheet.

@@ -30,6 +30,62 @@ pub fn good(random: &mut Random) -> Draft {
     draft
 }
 
+/// A random good sheet with few nodes and a small width, so that every list of places can be tried.
+pub fn tiny(random: &mut Random) -> Draft {
+    let size = Size {
+        width: 4,
+        layers: 3,
+        nodes: 6,
+        edges: 6,
+    };
+    sized(random, &size)
+}
+
+/// A random good sheet with at most twelve nodes and twelve edges.
+pub fn small(random: &mut Random) -> Draft {
+    let size = Size {
+        width: if random.once_in(20) { WIDTH_LIMIT } else { 20 },
+        layers: 5,
+        nodes: 12,
+        edges: 12,
+    };
+    sized(random, &size)
+}
+
+/// The greatest width and counts of a random sheet.
+struct Size {
+    width: u16,
+    layers: u16,
+    nodes: u16,
+    edges: u16,
+}
+
+/// A random good sheet within a size; its separations are small, and most have drawings.
+fn sized(random: &mut Random, size: &Size) -> Draft {
+    let mut counts = vec![1; random.within(1..=size.layers).into()];
+    for _ in counts.len()..random.within(size.nodes / 2..=size.nodes).into() {
+        let layer = random.index(counts.len());
+        counts[layer] += 1;
+    }
+    let mut draft = Draft::new(random.within(0..=size.width), &counts);
+    for separation in draft.layers.iter_mut().flatten() {
+        separation.minimum = if random.once_in(4) { 2 } else { 1 };
+        if random.once_in(3) {
+            separation.maximum = separation.minimum + random.within(0..=2);
+        }
+    }
+    if counts.len() > 1 {
+        for _ in 0..random.within(0..=size.edges) {
+            let mut edge = any_edge(random, &counts);
+            if random.once_in(2) {
+                edge.kind = PLAIN;
+            }
+            draft.edges.push(edge);
+        }
+    }
+    draft
+}
+
 /// Random counts of nodes for a random count of layers.
 fn node_counts(random: &mut Random) -> Vec<u16> {
     let (layers, nodes) = if random.once_in(10) {

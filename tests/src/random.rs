@@ -28,6 +28,11 @@ impl Random {
         least + (self.bits() % size) as u16
     }
 
+    /// Any 32-bit number.
+    pub fn signed(&mut self) -> i32 {
+        self.bits() as i32
+    }
+
     /// True once in `times` on average.
     pub fn once_in(&mut self, times: u16) -> bool {
         self.within(1..=times) == 1

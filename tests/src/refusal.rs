@@ -12,7 +12,7 @@ pub const OUTSIDE_LIMITS: u32 = 4;
 pub const MAXIMUM_BELOW_MINIMUM: u32 = 5;
 /// Something follows the last edge.
 pub const EXCESS: u32 = 6;
-/// A slice is too short for what is to be written there.
+/// A slice is too short for what is to be read or written there.
 pub const SLICE_TOO_SHORT: u32 = 7;
 
 /// One of the numbers above, and an offset in bytes (for the writer: an index).

@@ -1,23 +1,18 @@
 //! The stored test cases are the ones that this package computes.
 
 use std::fs;
-use std::path::{Path, PathBuf};
+use std::path::Path;
 
-use second::cases;
+use second::cases::{check, files, format, groups, Group};
 
 /// The command that writes the stored files anew, from the root of the repository.
 const REWRITE: &str = "cd tests && CARGO_TARGET_DIR=../target/cargo \
-    cargo run --release --offline --bin cases -- ../crates/format_test";
-
-/// The path of a stored file.
-fn path(name: &str) -> PathBuf {
-    let package = Path::new(env!("CARGO_MANIFEST_DIR"));
-    package.join("../crates/format_test").join(name)
-}
+    cargo run --release --offline --bin cases -- ../crates/library_test";
 
 /// Checks that a stored file has the lines computed.
-fn check(name: &str, computed: &str) {
-    let path = path(name);
+fn check_stored(name: &str, computed: &str) {
+    let folder = Path::new(env!("CARGO_MANIFEST_DIR")).join("../crates/library_test");
+    let path = folder.join(name);
     let stored = match fs::read_to_string(&path) {
         Ok(stored) => stored,
         Err(error) => panic!(
@@ -43,62 +38,123 @@ fn check(name: &str, computed: &str) {
 }
 
 #[test]
-fn stored_input_is_up_to_date() {
-    check("stdin", &cases::files().0);
-}
-
-#[test]
-fn stored_output_is_up_to_date() {
-    check("stdout", &cases::files().1);
+fn stored_files_are_up_to_date() {
+    for (name, computed) in files(&groups()) {
+        check_stored(name, &computed);
+    }
 }
 
 #[test]
 fn no_group_is_empty() {
-    let groups = cases::groups();
-    assert_eq!(groups.len(), 14);
-    for group in &groups {
+    assert_eq!((format::groups().len(), check::groups().len()), (14, 16));
+    for group in groups() {
         assert!(group.count() > 0, "{}", group.name);
     }
 }
 
+/// How many cases the group of that name has.
+fn count(groups: &[Group], name: &str) -> usize {
+    let named = groups.iter().filter(|group| group.name == name);
+    named.map(|group| group.count()).sum::<usize>()
+}
+
 #[test]
 fn there_are_many_damaged_cases() {
-    let count = |name: &str| {
-        let groups = cases::groups();
-        let named = groups.iter().filter(|group| group.name == name);
-        named.map(|group| group.count()).sum::<usize>()
-    };
-    assert!(count("damaged sheets") >= 300);
-    assert!(count("damaged number lists") >= 200);
+    let groups = format::groups();
+    assert!(count(&groups, "damaged sheets") >= 300);
+    assert!(count(&groups, "damaged number lists") >= 200);
+    let groups = check::groups();
+    assert!(count(&groups, "damaged sheets") >= 150);
+    assert!(count(&groups, "lists with one thing changed") >= 150);
 }
 
 #[test]
 fn cases_are_small_enough() {
-    let (input, output) = cases::files();
-    assert!(input.len() < 250_000 && output.len() < 250_000);
+    let [(_, input), (_, output)] = files(&groups());
+    assert!(input.len() < 500_000 && output.len() < 500_000);
     assert!(input.is_ascii() && output.is_ascii());
     assert_eq!(input.lines().count(), output.lines().count());
 }
 
+/// The parts of each line of input that is a case.
+fn parts(input: &str) -> Vec<[String; 4]> {
+    let cases = input.lines().filter(|line| !line.starts_with('#'));
+    let parts = |line: &str| {
+        let parts: Vec<String> = line.split(' ').map(str::to_owned).collect();
+        let parts: [String; 4] = parts.try_into().expect("a line has four parts");
+        assert!(parts[0].len() == 1 && parts[1].len() == 4 && parts[2].len() == 4);
+        parts
+    };
+    cases.map(parts).collect()
+}
+
+/// The value of hexadecimal digits.
+fn hexadecimal(digits: &str) -> usize {
+    usize::from_str_radix(digits, 16).expect("a number")
+}
+
 #[test]
-fn lines_keep_the_columns() {
-    let (input, _) = cases::files();
-    for line in input.lines().filter(|line| !line.starts_with('#')) {
-        let parts: Vec<&str> = line.split(' ').collect();
-        let &[operation, room, at, payload] = &parts[..] else {
-            panic!("not four parts: {line}");
-        };
-        assert!(room.len() == 4 && at.len() == 4, "{line}");
-        let room = usize::from_str_radix(room, 16).expect("room is a number");
-        let (greatest_room, digits, greatest_count) = match operation {
+fn lines_of_the_format_keep_the_columns() {
+    let [(_, input), _] = files(&format::groups());
+    for [operation, room, _, payload] in parts(&input) {
+        let (greatest_room, digits, greatest_count) = match &operation[..] {
             "R" => (2560, 2, 5130),
             "W" => (5122, 4, 2570),
             "G" => (0, 2, 5130),
             "P" => (5122, 8, 1),
-            _ => panic!("no such operation: {line}"),
+            _ => panic!("no such operation: {operation}"),
         };
-        assert!(room <= greatest_room, "{line}");
-        assert_eq!(payload.len() % digits, 0, "{line}");
-        assert!(payload.len() / digits <= greatest_count, "{line}");
+        assert!(hexadecimal(&room) <= greatest_room, "{payload}");
+        assert_eq!(payload.len() % digits, 0, "{payload}");
+        assert!(payload.len() / digits <= greatest_count, "{payload}");
     }
+}
+
+#[test]
+fn lines_of_the_checker_keep_the_columns() {
+    let [(_, input), _] = files(&check::groups());
+    for [operation, places, numbers, payload] in parts(&input) {
+        assert_eq!(operation, "C");
+        let (places, numbers) = (hexadecimal(&places), hexadecimal(&numbers));
+        assert!(places <= 300 && numbers <= 1100, "{payload}");
+        let digits = payload.len() - 4 * places - 8 * numbers;
+        assert!(digits % 2 == 0 && digits / 2 <= 5130, "{payload}");
+    }
+}
+
+#[test]
+fn checker_has_many_cases_of_each_answer() {
+    let [_, (_, output)] = files(&check::groups());
+    let count = |answer: &str| {
+        let answers = output.lines().filter(|line| !line.starts_with('#'));
+        answers.filter(|line| line.starts_with(answer)).count()
+    };
+    assert!(count("") >= 1000);
+    assert!(count("yes") >= 200);
+    assert!(count("no") >= 500);
+    for (number, least) in [(1, 40), (2, 20), (3, 15), (4, 50), (5, 8), (6, 8), (7, 20)] {
+        let answer = format!("refused {number} at ");
+        assert!(count(&answer) >= least, "{answer}");
+    }
+    assert_eq!(count("refused 8"), 0);
+}
+
+#[test]
+fn notes_tell_the_answers() {
+    let [_, (_, output)] = files(&check::groups());
+    let mut told = 0;
+    let mut note = "";
+    for line in output.lines() {
+        if line.starts_with('#') {
+            note = line;
+            continue;
+        }
+        let word = line.split(' ').next();
+        match note.rsplit(": ").next() {
+            answer @ Some("yes" | "no" | "refused") => assert_eq!(word, answer, "{note}"),
+            _ => continue,
+        }
+        told += 1;
+    }
+    assert!(told >= 600, "{told}");
 }

@@ -40,7 +40,7 @@ extent x = greatest-of x -ℤ least-of x
 -- b is at most the maximum right of a, where one is set
 abbrev pub within-maximumZ : ℕ → ℤ → ℤ → Bool
 within-maximumZ zero a b = true
-within-maximumZ (suc g) a b = leZ b (a +ℤ pos (suc g))
+within-maximumZ (suc maximum) a b = leZ b (a +ℤ pos (suc maximum))
 
 -- the separations of a pair
 abbrev pub separatedZ : List ℤ → Pair → Bool

@@ -68,7 +68,7 @@ edge-limits (suc kind) y = true
 -- a maximum's is 0 where none is set
 abbrev pub unset-limit : ℕ → ℤ → Bool
 unset-limit zero y = eqZ y (pos 0)
-unset-limit (suc greatest) y = true
+unset-limit (suc maximum) y = true
 
 -- those of separations and boundaries are never below 0
 abbrev pub pair-limits : PairTerm → Bool
@@ -90,23 +90,23 @@ last-node l = l .first + length (l .pairs)
 abbrev pub from-edges : Certificate → ℕ → ℤ
 from-edges c v = sum (λ e. only (e .edge .lower) (e .amount) v) (c .edges) -ℤ sum (λ e. only (e .edge .upper) (e .amount) v) (c .edges)
 
--- a minimum's drives the right node to greater and the left node to smaller places; a maximum's does the opposite
+-- a minimum's drives the right node to greater and the left node to smaller coordinates; a maximum's does the opposite
 abbrev pub pair-greater : ℕ → PairTerm → ℤ
 pair-greater v x = only (suc (x .pair .left)) (x .minimum) v +ℤ only (x .pair .left) (x .maximum) v
 
--- what of a pair drives v to smaller places
+-- what of a pair drives v to smaller coordinates
 abbrev pub pair-smaller : ℕ → PairTerm → ℤ
 pair-smaller v x = only (x .pair .left) (x .minimum) v +ℤ only (suc (x .pair .left)) (x .maximum) v
 
--- the left boundary's drives the first node to greater places, the right boundary's the last node to smaller ones
+-- the left boundary's drives the first node to greater coordinates, the right boundary's the last node to smaller ones
 abbrev pub layer-greater : ℕ → LayerTerm → ℤ
 layer-greater v l = only (l .layer .first) (l .left) v +ℤ sum (pair-greater v) (l .pairs)
 
--- what of a layer drives v to smaller places
+-- what of a layer drives v to smaller coordinates
 abbrev pub layer-smaller : ℕ → LayerTerm → ℤ
 layer-smaller v l = sum (pair-smaller v) (l .pairs) +ℤ only (last-node (l .layer)) (l .right) v
 
--- what the edges say equals what drives v to greater places minus what drives it to smaller ones
+-- what the edges say equals what drives v to greater coordinates minus what drives it to smaller ones
 abbrev pub balanced-at : Certificate → ℕ → Bool
 balanced-at c v = eqZ (from-edges c v) (sum (layer-greater v) (c .layers) -ℤ sum (layer-smaller v) (c .layers))
 

@@ -8,6 +8,6 @@ use Rattle.drawing.specs.Sheet.{Sheet}
 use Rattle.drawing.specs.Drawing.{is-drawing, total-length}
 use Rattle.drawing.specs.Certificate.{meets-rules, bound}
 
--- yes: the places are a drawing, the list meets the rules, and the bound (floor) equals the total
+-- yes: the coordinates are a drawing, the list meets the rules, and the bound (floor) equals the total
 unfoldable pub judged : Sheet → List ℕ → List ℤ → Bool
 judged S p y = is-drawing S p && (meets-rules S y && eqZ (bound S y) (pos (total-length S p)))

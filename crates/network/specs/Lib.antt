@@ -3,4 +3,5 @@ pub mod Sums
 pub mod Network
 pub mod Flows
 pub mod Packed
+pub mod Net
 pub mod laws

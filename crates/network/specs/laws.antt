@@ -13,3 +13,4 @@ pub mod Certified
 pub mod Differences
 pub mod PackedBack
 pub mod Hanging
+pub mod PackedLegal

@@ -15,8 +15,7 @@ fn main() -> ExitCode {
         return ExitCode::FAILURE;
     };
     let folder = Path::new(&folder);
-    let (input, output) = cases::files();
-    for (name, contents) in [("stdin", input), ("stdout", output)] {
+    for (name, contents) in cases::files(&cases::groups()) {
         let path = folder.join(name);
         if let Err(error) = fs::write(&path, contents) {
             eprintln!("cases: cannot write {}: {error}", path.display());

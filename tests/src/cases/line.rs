@@ -1,15 +1,8 @@
-//! The form of the lines of input and output.
+//! What the lines of all programs have in common.
 
 use std::fmt::LowerHex;
 
-use crate::number::{self, Placed};
 use crate::refusal::Refusal;
-use crate::sheet;
-
-/// What every number of a slice holds before the call.
-pub const NUMBER_FILL: u16 = 0xa5a5;
-/// What every byte of a slice holds before the call.
-pub const BYTE_FILL: u8 = 0xa5;
 
 /// A line of input and the line of output that answers it.
 pub struct Line {
@@ -27,76 +20,19 @@ impl Line {
         }
     }
 
-    /// Reads a sheet.
-    pub(super) fn read(bytes: &[u8], room: usize) -> Line {
-        let mut slice = vec![NUMBER_FILL; room];
-        let result = sheet::read(bytes, &mut slice);
-        Line {
-            input: input('R', room, 0, &digits(bytes, 2, "")),
-            output: sheet_answer(result) + ":" + &digits(&slice, 4, " "),
-        }
-    }
-
-    /// Writes a sheet.
-    pub(super) fn write(numbers: &[u16], room: usize) -> Line {
-        let mut slice = vec![BYTE_FILL; room];
-        let result = sheet::write(numbers, &mut slice);
-        Line {
-            input: input('W', room, 0, &digits(numbers, 4, "")),
-            output: sheet_answer(result) + ":" + &digits(&slice, 2, " "),
-        }
-    }
-
-    /// Reads one number.
-    pub(super) fn read_number(bytes: &[u8], at: usize) -> Line {
-        let output = match number::read(bytes, at) {
-            Ok((value, next)) => format!("value {value} next {next}"),
-            Err(refusal) => refused(refusal),
-        };
-        let input = input('G', 0, at, &digits(bytes, 2, ""));
-        Line { input, output }
-    }
-
-    /// Writes one number.
-    pub(super) fn write_number(n: u32, at: usize, room: usize) -> Line {
-        let mut slice = vec![BYTE_FILL; room];
-        let answer = match number::write(&mut slice, at, n) {
-            Placed::Next(next) => format!("next {next}"),
-            Placed::NoForm => "no form".to_string(),
-            Placed::NoRoom => "no room".to_string(),
-        };
-        Line {
-            input: input('P', room, at, &digits(&[n], 8, "")),
-            output: answer + ":" + &digits(&slice, 2, " "),
-        }
-    }
-
     /// Whether the line names cases and is none itself.
     pub fn is_comment(&self) -> bool {
         self.input.starts_with('#')
     }
 }
 
-/// A line of input in its fixed columns.
-fn input(operation: char, room: usize, at: usize, payload: &str) -> String {
-    format!("{operation} {room:04x} {at:04x} {payload}")
-}
-
-/// The answer of the reader or the writer of sheets.
-fn sheet_answer(result: Result<usize, Refusal>) -> String {
-    match result {
-        Ok(count) => format!("done {count}"),
-        Err(refusal) => refused(refusal),
-    }
-}
-
 /// A refusal in words.
-fn refused(refusal: Refusal) -> String {
+pub(super) fn refused(refusal: Refusal) -> String {
     format!("refused {} at {}", refusal.number, refusal.offset)
 }
 
 /// The elements in hexadecimal digits, each behind `before`.
-fn digits<T: LowerHex>(elements: &[T], width: usize, before: &str) -> String {
+pub(super) fn digits<T: LowerHex>(elements: &[T], width: usize, before: &str) -> String {
     let element = |element| format!("{before}{element:0width$x}");
     elements.iter().map(element).collect()
 }

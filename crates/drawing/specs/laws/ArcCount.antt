@@ -1,4 +1,5 @@
--- A good sheet has an arc for each number of its certificate: a layer of c nodes has 2 · c arcs, by induction over the layers.
+-- A good sheet has an arc for each number of its certificate: a layer of c nodes has 2 · c arcs, by induction over the
+-- layers.
 use mathlib.Core.Path.{_≡_}
 use mathlib.Core.List.{List, map, flatMap}
 use Prim.Native.Nat.{ℕ, zero, suc, _+_, _-_, _*_}

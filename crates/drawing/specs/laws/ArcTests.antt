@@ -1,37 +1,45 @@
--- The tests and costs of a sheet's arcs are document 01's, kind by kind: the tension is a difference of two places.
-use mathlib.Core.Path.{_≡_, refl, _∙_, ap, ap₂, subst}
+-- The tests and costs of a sheet's arcs are document 01's, kind by kind: a tension is a difference of two coordinates.
+use mathlib.Core.Path.{_≡_, refl, _∙_, ap, ap₂}
 use mathlib.Core.List.{List, [], _∷_, flatMap}
-use mathlib.Core.Bool.{true, _&&_}
+use mathlib.Core.Bool.{true, _&&_, and-true}
 use Prim.Native.Nat.{ℕ, zero, suc, _+_, _-_, _≤_}
 use native.Mathlib.Omega.{arith}
-use lib.Dec.{T, leb, leb→le, le→leb, eqb, eqb→eq, eqb-refl}
+use lib.Dec.{T, leb, leb→le, le→leb, eqb, eqb→eq}
 use lib.ListN.{length, List·getD-map}
 use lib.IntN.{ℤ, pos, negsuc, negℤ, _+ℤ_, _-ℤ_}
 use lib.Signed.{_≤ℤ_, leZ-yes}
+use borrow.Author.Tests.{eq-eqb}
 use Rattle.network.specs.laws.IntegerParts.{up, down, le-parts, parts-le, sum-parts, up-neg, down-neg, min-parts}
 use Rattle.network.specs.Sums.{sum, all}
-use mathlib.Core.Bool.{and-true}
 use Rattle.network.specs.laws.Tests.{test-ext, all-ext, all-append, all-flat}
 use Rattle.network.specs.laws.Sums.{sum-append, sum-flat, sum-null}
-use Rattle.network.specs.Network.{integers, potential, past-kink, legal-at, cost-at, legal, cost}
+use Rattle.network.specs.Network.{Arc, integers, potential, past-kink, legal-at, cost-at, legal, cost}
 use Rattle.network.specs.laws.ArcSlack.{costless}
-use Rattle.drawing.specs.Sheet.{Pair, Layer, sheet-of}
+use Rattle.drawing.specs.Sheet.{Pair, Layer}
 use Rattle.drawing.specs.Drawing.{coordinate, within-maximum, separated, aligned}
 use Rattle.drawing.specs.Arcs.{edge-arc-between, upper-bound, minimum-arc, maximum-arc, separation-arcs, layer-arcs}
 
+-- a node's potential, under natural numbers, is its coordinate
+pub integer-coordinate : (p : List ℕ) (v : ℕ) → potential (integers p) v ≡ pos (coordinate p v)
+integer-coordinate p v = List·getD-map pos p v 0
+
+-- its part above 0 is the coordinate
 up-coordinate : (p : List ℕ) (v : ℕ) → up (potential (integers p) v) ≡ coordinate p v
 unfolding up
-up-coordinate p v = ap up (List·getD-map pos p v 0)
+up-coordinate p v = ap up (integer-coordinate p v)
 
+-- its part below 0 is none
 down-coordinate : (p : List ℕ) (v : ℕ) → down (potential (integers p) v) ≡ 0
 unfolding down
-down-coordinate p v = ap down (List·getD-map pos p v 0)
+down-coordinate p v = ap down (integer-coordinate p v)
 
+-- an upper bound that is legal is not past its kink
 upper-bound-le : (u v : ℕ) (k d : ℤ) → T (legal-at (upper-bound u v k) d) → d ≤ℤ pos 0
 upper-bound-le u v k (pos zero) t = leZ-yes tt
 upper-bound-le u v k (pos (suc n)) t = absurd t
 upper-bound-le u v k (negsuc n) t = leZ-yes tt
 
+-- an upper bound that is not past its kink is legal
 le-upper-bound : (u v : ℕ) (k d : ℤ) → d ≤ℤ pos 0 → T (legal-at (upper-bound u v k) d)
 le-upper-bound u v k (pos zero) h = tt
 le-upper-bound u v k (pos (suc n)) h = absurd (positive n (leb→le (suc n) 0 (h .le)))
@@ -41,6 +49,7 @@ le-upper-bound u v k (pos (suc n)) h = absurd (positive n (leb→le (suc n) 0 (h
 le-upper-bound u v k (negsuc n) h = tt
 
 module _ (p : List ℕ) (u v : ℕ) where
+  -- how far an arc from u to v is past its kink, as an equation of natural numbers
   pub past-kink-parts : (k : ℤ) → up (past-kink (integers p) (upper-bound u v k)) + (coordinate p u + up k) ≡ down (past-kink (integers p) (upper-bound u v k)) + (coordinate p v + down k)
   past-kink-parts k = omega (
     arith,
@@ -56,15 +65,18 @@ module _ (p : List ℕ) (u v : ℕ) where
     down-coordinate p v,
   )
 
+  -- a legal upper bound bounds its head's coordinate by its tail's
   upper-bound-coordinate : (k : ℤ) → T (legal (integers p) (upper-bound u v k)) → coordinate p v + down k ≤ coordinate p u + up k
   unfolding up down
   upper-bound-coordinate k t = omega (arith, past-kink-parts k, le-parts (upper-bound-le u v k (past-kink (integers p) (upper-bound u v k)) t))
 
+  -- and an upper bound that the coordinates meet is legal
   coordinate-upper-bound : (k : ℤ) → coordinate p v + down k ≤ coordinate p u + up k → T (legal (integers p) (upper-bound u v k))
   unfolding up down
   coordinate-upper-bound k h = le-upper-bound u v k (past-kink (integers p) (upper-bound u v k)) (parts-le (past-kink (integers p) (upper-bound u v k)) (pos 0) (omega (arith, past-kink-parts k)))
 
 module _ (p : List ℕ) where
+  -- the arc of a minimum separation tests the minimum
   minimum-is : (x : Pair) → legal (integers p) (minimum-arc x) ≡ leb (coordinate p (x .left) + x .minimum) (coordinate p (suc (x .left)))
   unfolding up down
   minimum-is x = test-ext (legal (integers p) (minimum-arc x)) (leb (coordinate p (x .left) + x .minimum) (coordinate p (suc (x .left))))
@@ -73,58 +85,65 @@ module _ (p : List ℕ) where
       (λ t. coordinate-upper-bound p (suc (x .left)) (x .left) (negℤ (pos (x .minimum)))
       (omega (arith, leb→le (coordinate p (x .left) + x .minimum) (coordinate p (suc (x .left))) t, up-neg (pos (x .minimum)), down-neg (pos (x .minimum)))))
 
-  maximum-is : (g v : ℕ) → legal (integers p) (maximum-arc g v) ≡ within-maximum g (coordinate p v) (coordinate p (suc v))
+  -- the arc of a maximum separation tests the maximum, where one is set
+  maximum-is : (maximum v : ℕ) → legal (integers p) (maximum-arc maximum v) ≡ within-maximum maximum (coordinate p v) (coordinate p (suc v))
   unfolding up down
   maximum-is zero v = free (past-kink (integers p) (maximum-arc 0 v))
     where
+      -- where none is set, every side is legal
       free : (d : ℤ) → legal-at (maximum-arc 0 v) d ≡ true
       free (pos zero) = refl
       free (pos (suc n)) = refl
       free (negsuc n) = refl
-  maximum-is (suc g) v = test-ext (legal (integers p) (maximum-arc (suc g) v)) (leb (coordinate p (suc v)) (coordinate p v + suc g))
-      (λ t. le→leb (coordinate p (suc v)) (coordinate p v + suc g) (omega (arith, upper-bound-coordinate p v (suc v) (pos (suc g)) t)))
-      (λ t. coordinate-upper-bound p v (suc v) (pos (suc g)) (omega (arith, leb→le (coordinate p (suc v)) (coordinate p v + suc g) t)))
+  maximum-is (suc maximum) v = test-ext (legal (integers p) (maximum-arc (suc maximum) v)) (leb (coordinate p (suc v)) (coordinate p v + suc maximum))
+      (λ t. le→leb (coordinate p (suc v)) (coordinate p v + suc maximum) (omega (arith, upper-bound-coordinate p v (suc v) (pos (suc maximum)) t)))
+      (λ t. coordinate-upper-bound p v (suc v) (pos (suc maximum)) (omega (arith, leb→le (coordinate p (suc v)) (coordinate p v + suc maximum) t)))
 
+  -- the two arcs of a pair test its separations
   separation-is : (x : Pair) → all (legal (integers p)) (separation-arcs x) ≡ separated p x
   separation-is x = ap₂ _&&_ (minimum-is x) (and-true (legal (integers p) (maximum-arc (x .maximum) (x .left))) ∙ maximum-is (x .maximum) (x .left))
 
+  -- the arc of an edge tests whether a straight edge is straight
   pub edge-is : (kind u v : ℕ) → legal (integers p) (edge-arc-between kind u v) ≡ aligned kind (coordinate p u) (coordinate p v)
   unfolding up down
   edge-is zero u v = free (past-kink (integers p) (edge-arc-between 0 u v))
     where
+      -- a plain edge's arc is legal on every side
       free : (d : ℤ) → legal-at (edge-arc-between 0 u v) d ≡ true
       free (pos zero) = refl
       free (pos (suc n)) = refl
       free (negsuc n) = refl
   edge-is (suc kind) u v = test-ext (legal (integers p) (edge-arc-between (suc kind) u v)) (eqb (coordinate p u) (coordinate p v))
-      (λ t. eq→eqb (coordinate p u) (coordinate p v) (omega (arith, past-kink-parts p u v (pos 0), straight-parts (past-kink (integers p) (edge-arc-between (suc kind) u v)) t)))
+      (λ t. rw (eq-eqb (coordinate p u) (coordinate p v) (omega (arith, past-kink-parts p u v (pos 0), straight-parts (past-kink (integers p) (edge-arc-between (suc kind) u v)) t))) tt)
       (λ t. parts-straight (past-kink (integers p) (edge-arc-between (suc kind) u v)) (omega (arith, past-kink-parts p u v (pos 0), eqb→eq (coordinate p u) (coordinate p v) t)))
     where
+      -- a straight edge's arc that is legal is at its kink
       straight-parts : (d : ℤ) → T (legal-at (edge-arc-between (suc kind) u v) d) → up d ≡ down d
       straight-parts (pos zero) t = refl
       straight-parts (pos (suc n)) t = absurd t
       straight-parts (negsuc n) t = absurd t
 
+      -- a straight edge's arc that is at its kink is legal
       parts-straight : (d : ℤ) → up d ≡ down d → T (legal-at (edge-arc-between (suc kind) u v) d)
       parts-straight (pos zero) e = tt
       parts-straight (pos (suc n)) e = absurd (omega arith)
       parts-straight (negsuc n) e = absurd (omega arith)
 
-      eq→eqb : (a b : ℕ) → a ≡ b → T (eqb a b)
-      eq→eqb a b e = subst (λ (c : ℕ). T (eqb a c)) e (eqb-refl a)
-
-  -- the ground
+  -- the boundaries, where ground's coordinate is 0
   module _ (width ground : ℕ) (zero-there : coordinate p ground ≡ 0) where
+    -- a left boundary is always legal, as no coordinate is below 0
     left-boundary : (v : ℕ) → legal (integers p) (upper-bound v ground (pos 0)) ≡ true
     unfolding up down
     left-boundary v = test-ext (legal (integers p) (upper-bound v ground (pos 0))) true (λ t. tt) (λ t. coordinate-upper-bound p v ground (pos 0) (omega arith))
 
+    -- a right boundary tests whether a coordinate is within the width
     right-boundary : (v : ℕ) → legal (integers p) (upper-bound ground v (pos width)) ≡ leb (coordinate p v) width
     unfolding up down
     right-boundary v = test-ext (legal (integers p) (upper-bound ground v (pos width))) (leb (coordinate p v) width)
         (λ t. le→leb (coordinate p v) width (omega (arith, upper-bound-coordinate p ground v (pos width) t)))
         (λ t. coordinate-upper-bound p ground v (pos width) (omega (arith, leb→le (coordinate p v) width t)))
 
+    -- the arcs of a layer test its separations, and whether its last node is within the width
     pub layer-is : (l : Layer) → all (legal (integers p)) (layer-arcs width ground l) ≡ (all (separated p) (l .pairs) && leb (coordinate p (l .first + length (l .pairs))) width)
     layer-is l =
         ap₂ _&&_ (left-boundary (l .first))
@@ -132,12 +151,13 @@ module _ (p : List ℕ) where
         ∙ ap₂ _&&_ (all-flat (legal (integers p)) separation-arcs (l .pairs) ∙ all-ext (λ x. all (legal (integers p)) (separation-arcs x)) (separated p) separation-is (l .pairs))
         (and-true (legal (integers p) (upper-bound ground (l .first + length (l .pairs)) (pos width))) ∙ right-boundary (l .first + length (l .pairs))))
 
-  -- ---- costs
-
-  pub edge-cost : (kind u v : ℕ) → T (aligned kind (coordinate p u) (coordinate p v)) → cost (integers p) (edge-arc-between kind u v) ≡ pos ((coordinate p v - coordinate p u) + (coordinate p u - coordinate p v))
+  -- the arc of an edge costs the edge's length, where a straight edge is straight
+  pub edge-cost : (kind u v : ℕ) → T (aligned kind (coordinate p u) (coordinate p v))
+      → cost (integers p) (edge-arc-between kind u v) ≡ pos ((coordinate p v - coordinate p u) + (coordinate p u - coordinate p v))
   unfolding up down
   edge-cost zero u v t = plain (past-kink (integers p) (edge-arc-between 0 u v)) ∙ ap pos (omega (arith, past-kink-parts p u v (pos 0), min-parts (past-kink (integers p) (edge-arc-between 0 u v))))
     where
+      -- a plain edge's arc costs its distance from the kink
       plain : (d : ℤ) → cost-at (edge-arc-between 0 u v) d ≡ pos (up d + down d)
       plain (pos n) = ap pos (omega arith)
       plain (negsuc n) = ap pos (omega arith)
@@ -145,18 +165,23 @@ module _ (p : List ℕ) where
       costless (edge-arc-between (suc kind) u v) refl refl (past-kink (integers p) (edge-arc-between (suc kind) u v))
       ∙ ap pos (omega (arith, eqb→eq (coordinate p u) (coordinate p v) t))
 
+  -- the two arcs of a pair cost nothing
   separation-cost : (x : Pair) → sum (cost (integers p)) (separation-arcs x) ≡ pos 0
   separation-cost x =
       ap₂ _+ℤ_ (costless (minimum-arc x) refl refl (past-kink (integers p) (minimum-arc x)))
-      (ap (λ (z : ℤ). z +ℤ pos 0) (unset (x .maximum)))
+      (ap (λ (z : ℤ). z +ℤ pos 0) (maximum-cost (x .maximum)))
     where
-      unset : (g : ℕ) → cost (integers p) (maximum-arc g (x .left)) ≡ pos 0
-      unset zero = costless (maximum-arc 0 (x .left)) refl refl (past-kink (integers p) (maximum-arc 0 (x .left)))
-      unset (suc g) = costless (maximum-arc (suc g) (x .left)) refl refl (past-kink (integers p) (maximum-arc (suc g) (x .left)))
+      -- that of the maximum separation, set or not
+      maximum-cost : (maximum : ℕ) → cost (integers p) (maximum-arc maximum (x .left)) ≡ pos 0
+      maximum-cost zero = costless (maximum-arc 0 (x .left)) refl refl (past-kink (integers p) (maximum-arc 0 (x .left)))
+      maximum-cost (suc maximum) = costless (maximum-arc (suc maximum) (x .left)) refl refl (past-kink (integers p) (maximum-arc (suc maximum) (x .left)))
 
+  -- the arcs of a layer cost nothing
   pub layer-cost : (width ground : ℕ) (l : Layer) → sum (cost (integers p)) (layer-arcs width ground l) ≡ pos 0
   layer-cost width ground l =
-      ap₂ _+ℤ_ (costless (upper-bound (l .first) ground (pos 0)) refl refl (past-kink (integers p) (upper-bound (l .first) ground (pos 0))))
-      (sum-append (cost (integers p)) (flatMap separation-arcs (l .pairs)) (upper-bound ground (l .first + length (l .pairs)) (pos width) ∷ [])
+      let left : Arc = upper-bound (l .first) ground (pos 0) in
+      let right : Arc = upper-bound ground (l .first + length (l .pairs)) (pos width) in
+      ap₂ _+ℤ_ (costless left refl refl (past-kink (integers p) left))
+      (sum-append (cost (integers p)) (flatMap separation-arcs (l .pairs)) (right ∷ [])
       ∙ ap₂ _+ℤ_ (sum-flat (cost (integers p)) separation-arcs (l .pairs) ∙ sum-null (λ x. sum (cost (integers p)) (separation-arcs x)) separation-cost (l .pairs))
-      (ap (λ (z : ℤ). z +ℤ pos 0) (costless (upper-bound ground (l .first + length (l .pairs)) (pos width)) refl refl (past-kink (integers p) (upper-bound ground (l .first + length (l .pairs)) (pos width))))))
+      (ap (λ (z : ℤ). z +ℤ pos 0) (costless right refl refl (past-kink (integers p) right))))

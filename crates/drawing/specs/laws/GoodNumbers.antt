@@ -1,22 +1,19 @@
--- The numbers that the sheet's grammar accepts are good: each number's rule gives its limits, and the counts of nodes say
--- which positions are nodes.
+-- The numbers that the sheet's grammar accepts are good: each number's rule gives its limits, and the counts of nodes
+-- say which positions are nodes.
 use Prim.Native.Nat.{ℕ, zero, suc, _+_, _-_, _*_, _≤_, _<_, min}
 use mathlib.Core.Path.{_≡_, refl, sym, _∙_, ap, subst}
-use mathlib.Core.Logic.{⊎-elim}
 use mathlib.Core.List.{List, [], _∷_, _++_, append-assoc, append-nil}
 use native.Mathlib.Nat.{add-zero}
 use native.Mathlib.Omega.{arith}
 use lib.Dec.{T, le→leb}
-use lib.ListN.{length, getD, drop, length-drop}
+use lib.ListN.{length, getD, drop}
 use lib.Seq.{getD-drop, drop-drop}
-use borrow.Author.Tests.{le-leb, lt-leb, lt-ltb, ne-eqb}
-use Rattle.leb128.specs.Grammar.{Grammar, within, both}
-use Rattle.leb128.specs.laws.Cases.{lt-or-le}
+use Rattle.leb128.specs.Grammar.{Grammar}
 use Rattle.leb128.specs.laws.EachNumber.{within-limits}
 use Rattle.leb128.specs.laws.AcceptedNumbers.{Accepts}
 use Rattle.sheet.specs.Limits.{max-width, max-layers, max-layer-nodes, max-nodes, max-separation, max-edges, max-kind}
-use Rattle.sheet.specs.Layout.{layers-at, first-layer-at, nodes-at, separations-at, separation-stride, edge-count-at, edges-at, edge-stride, edge-layer-at, edge-upper-at, edge-lower-at, edge-kind-at, next-layer, behind-layers, nodes-of, node-count}
-use Rattle.sheet.specs.Grammar.{crossed, maximum-rule, separation, separations, layers, edge, edges, sheet}
+use Rattle.sheet.specs.Layout.{layers-at, first-layer-at, nodes-at, edge-count-at, edge-stride, edge-layer-at, edge-upper-at, edge-lower-at, edge-kind-at, next-layer, behind-layers, nodes-of, node-count}
+use Rattle.sheet.specs.Grammar.{maximum-rule, separation, separations, layers, edge, edges, sheet}
 use Rattle.sheet.specs.laws.SheetNumbers.{maximum-within, maximum-apart}
 use Rattle.sheet.specs.laws.LaidOut.{opened, behind-layer}
 use Rattle.drawing.specs.Sheet.{first-nodes}

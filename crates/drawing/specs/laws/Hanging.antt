@@ -1,23 +1,21 @@
--- Every node of a sheet hangs on ground, by its left boundary or by the minimum separation from its left neighbour; so every
--- integer solution of a sheet's network is a drawing, from 0 to the width.
+-- Every node of a sheet hangs on ground, by its left boundary or by the minimum separation from its left neighbour; so
+-- every integer solution of a sheet's network is a drawing, from 0 to the width.
 use Prim.Native.Nat.{ℕ, zero, suc, _+_, _-_, _≤_, _<_, zero-le}
 use mathlib.Core.Path.{_≡_, refl, sym, subst}
-use mathlib.Core.Bool.{Bool, _&&_}
 use mathlib.Core.List.{List, [], _∷_, _++_, map, flatMap}
-use mathlib.Core.Logic.{inl, inr}
-use native.Mathlib.Decide.{ℕ-discrete, decLt}
+use mathlib.Core.Logic.{inl, inr, ⊎-elim}
 use native.Mathlib.Omega.{arith}
-use lib.Dec.{T}
-use lib.IntN.{ℤ, pos, negsuc, negℤ}
+use lib.IntN.{ℤ, pos, negℤ}
 use lib.ListN.{length, getD, drop}
 use lib.Signed.{_≤ℤ_, leZ-yes}
+use Rattle.leb128.specs.laws.Cases.{lt-or-le, eq-or-ne}
 use Rattle.network.specs.Sums.{all}
-use Rattle.network.specs.Network.{Arc, Network, Feasible, integers}
+use Rattle.network.specs.Network.{Arc, Feasible, integers}
 use Rattle.network.specs.laws.IntegerParts.{up}
-use Rattle.network.specs.laws.Tests.{and-left, and-right}
+use Rattle.network.specs.laws.Tests.{and-left}
 use Rattle.network.specs.laws.Hanging.{Hook, Hangs, hook-first, hook-second, natural-potentials}
 use Rattle.sheet.specs.Layout.{layers-at, first-layer-at, nodes-at, separations-at, separation-stride, minimum-at, maximum-at, next-layer}
-use Rattle.drawing.specs.Sheet.{Pair, Layer, Sheet, pairs-of, layers-of, first-nodes, sheet-of}
+use Rattle.drawing.specs.Sheet.{Pair, Layer, pairs-of, layers-of, first-nodes, sheet-of}
 use Rattle.drawing.specs.Drawing.{Drawing}
 use Rattle.drawing.specs.Arcs.{edge-arc, upper-bound, minimum-arc, maximum-arc, separation-arcs, layer-arcs, network}
 use Rattle.drawing.specs.laws.SameDrawings.{feasible-drawing}
@@ -46,13 +44,10 @@ pairs-hook nodes zero v s u h k = absurd (omega arith)
 pairs-hook nodes (suc m) v s u h k =
     let x : Pair = record { left = v; minimum = getD s minimum-at 0; maximum = getD s maximum-at 0 } in
     let rest : List Arc = flatMap separation-arcs (pairs-of m (suc v) (drop separation-stride s)) in
-    elim (ℕ-discrete u (suc v)) [
-      | yes e ↦ subst (λ (w : ℕ). Hook nodes (separation-arcs x ++ rest) w) (sym e) (hook-first (separation-arcs x) rest (pair-hook nodes x))
-      | no ne ↦ hook-second (separation-arcs x) rest (pairs-hook nodes m (suc v) (drop separation-stride s) u (later u v h ne) (omega arith))
-    ]
-  where
-    later : (u v : ℕ) → v < u → (u ≡ suc v → ⊥) → suc v < u
-    later u v h ne = omega arith
+    ⊎-elim
+    (λ (e : u ≡ suc v). subst (λ (w : ℕ). Hook nodes (separation-arcs x ++ rest) w) (sym e) (hook-first (separation-arcs x) rest (pair-hook nodes x)))
+    (λ (ne : u ≡ suc v → ⊥). hook-second (separation-arcs x) rest (pairs-hook nodes m (suc v) (drop separation-stride s) u (omega arith) (omega arith)))
+    (eq-or-ne u (suc v))
 
 -- a layer's first node hangs on ground
 first-hook : (width ground : ℕ) (l : Layer) → Hook ground (layer-arcs width ground l) (l .first)
@@ -73,13 +68,10 @@ layer-hook width ground c v s u h k =
     let left : List Arc = upper-bound v ground (pos 0) ∷ [] in
     let pairs : List Arc = flatMap separation-arcs (l .pairs) in
     let right : List Arc = upper-bound ground (v + length (l .pairs)) (pos width) ∷ [] in
-    elim (ℕ-discrete u v) [
-      | yes e ↦ subst (λ (w : ℕ). Hook ground (layer-arcs width ground l) w) (sym e) (first-hook width ground l)
-      | no ne ↦ hook-second left (pairs ++ right) (hook-first pairs right (pairs-hook ground (c - 1) v s u (later u v h ne) (omega arith)))
-    ]
-  where
-    later : (u v : ℕ) → v ≤ u → (u ≡ v → ⊥) → v < u
-    later u v h ne = omega arith
+    ⊎-elim
+    (λ (e : u ≡ v). subst (λ (w : ℕ). Hook ground (layer-arcs width ground l) w) (sym e) (first-hook width ground l))
+    (λ (ne : u ≡ v → ⊥). hook-second left (pairs ++ right) (hook-first pairs right (pairs-hook ground (c - 1) v s u (omega arith) (omega arith))))
+    (eq-or-ne u v)
 
 -- each node of k layers hangs
 layers-hook : (width ground k v : ℕ) (s : List ℕ) (u : ℕ) → v ≤ u → u < getD (first-nodes k v s) k 0 → Hook ground (flatMap (layer-arcs width ground) (layers-of k v s)) u
@@ -89,13 +81,10 @@ layers-hook width ground (suc k) v s u h i =
     let c : ℕ = getD s nodes-at 0 in
     let l : Layer = record { first = v; pairs = pairs-of (c - 1) v (drop separations-at s) } in
     let rest : List Arc = flatMap (layer-arcs width ground) (layers-of k (v + c) (next-layer s)) in
-    elim (decLt u (v + c)) [
-      | yes here ↦ hook-first (layer-arcs width ground l) rest (layer-hook width ground c v (drop separations-at s) u h here)
-      | no past ↦ hook-second (layer-arcs width ground l) rest (layers-hook width ground k (v + c) (next-layer s) u (beyond u (v + c) past) i)
-    ]
-  where
-    beyond : (u w : ℕ) → (u < w → ⊥) → w ≤ u
-    beyond u w h = omega arith
+    ⊎-elim
+    (λ (here : u < v + c). hook-first (layer-arcs width ground l) rest (layer-hook width ground c v (drop separations-at s) u h here))
+    (λ (past : v + c ≤ u). hook-second (layer-arcs width ground l) rest (layers-hook width ground k (v + c) (next-layer s) u past i))
+    (lt-or-le u (v + c))
 
 -- every node of a sheet hangs on ground
 pub sheet-hangs : (s : List ℕ) → Hangs (network (sheet-of s))

@@ -1,5 +1,5 @@
--- Least total means the same for drawings and for source 004's assignments: each is one of the other, up to a shift, with the same total.
---
+-- Least total means the same for drawings and for source 004's assignments: each is one of the other, up to a shift,
+-- with the same total.
 use mathlib.Core.List.{List}
 use Prim.Native.Nat.{ℕ, _≤_}
 use lib.IntN.{ℤ}
@@ -16,12 +16,14 @@ pub record LeastAssignment (S : Sheet) (x : List ℤ) : Type 0 where
   pub least : (z : List ℤ) → Assignment S z → total-lengthZ S x ≤ total-lengthZ S z
 
 module _ (S : Sheet) (proper : Proper S) where
+  -- a least drawing is a least assignment
   pub drawing-least-assignment : (p : List ℕ) → LeastDrawing S p → LeastAssignment S (integers p)
   drawing-least-assignment p m = record {
     assignment = drawing-assignment S p (m .drawing);
     least = λ z a. rw (drawing-length S p, ← shifted-total S proper z a) (m .least (shifted z) (shifted-drawing S proper z a));
   }
 
+  -- a least assignment, shifted to 0, is a least drawing
   pub assignment-least-drawing : (x : List ℤ) → LeastAssignment S x → LeastDrawing S (shifted x)
   assignment-least-drawing x l = record {
     drawing = shifted-drawing S proper x (l .assignment);

@@ -10,17 +10,18 @@ use Rattle.network.specs.Sums.{all}
 use Rattle.network.specs.laws.Tests.{and-both}
 use Rattle.leb128.specs.laws.AcceptedNumbers.{Accepts}
 use Rattle.sheet.specs.Limits.{max-width, max-nodes, max-separation, max-edges, max-kind}
-use Rattle.sheet.specs.Layout.{layers-at, first-layer-at, nodes-at, separations-at, separation-stride, minimum-at, maximum-at, edge-count-at, edges-at, edge-stride, edge-kind-at, next-layer, behind-layers, node-count}
+use Rattle.sheet.specs.Layout.{layers-at, first-layer-at, nodes-at, separations-at, separation-stride, minimum-at, maximum-at, edge-count-at, edges-at, edge-stride, next-layer, behind-layers, node-count}
 use Rattle.sheet.specs.Grammar.{sheet}
 use Rattle.sheet.specs.laws.Sheets.{good-layout}
 use Rattle.drawing.specs.Sheet.{Pair, Edge, Sheet, pairs-of, layers-of, first-nodes, edge-of, edges-of, sheet-of}
-use Rattle.drawing.specs.laws.Good.{not-crossed, GoodPair, GoodPairs, GoodLayers, GoodEdge, GoodEdges, Good}
+use Rattle.drawing.specs.laws.Good.{not-crossed, GoodPair, GoodPairs, GoodLayers, GoodEdges}
 use Rattle.drawing.specs.laws.GoodNumbers.{last-first-node, accepts-good}
 
 -- the limits of a pair of n nodes
 abbrev pub proper-pair : ℕ → Pair → Bool
 proper-pair n x =
-    ltb (suc (x .left)) n && ((leb 1 (x .minimum) && leb (x .minimum) max-separation) && (leb (x .maximum) max-separation && not-crossed (x .minimum) (x .maximum)))
+    ltb (suc (x .left)) n
+    && ((leb 1 (x .minimum) && leb (x .minimum) max-separation) && (leb (x .maximum) max-separation && not-crossed (x .minimum) (x .maximum)))
 
 -- the limits of an edge between n nodes
 abbrev pub proper-edge : ℕ → Edge → Bool
@@ -37,12 +38,12 @@ pub record Proper (S : Sheet) : Type 0 where
 -- a good pair is proper
 pair-proper : (n v : ℕ) (s : List ℕ) → suc v < n → GoodPair s → T (proper-pair n (record { left = v; minimum = getD s minimum-at 0; maximum = getD s maximum-at 0 }))
 pair-proper n v s h g =
-    let least : ℕ = getD s minimum-at 0 in
-    let most : ℕ = getD s maximum-at 0 in
-    and-both (ltb (suc v) n) ((leb 1 least && leb least max-separation) && (leb most max-separation && not-crossed least most)) (lt→ltb (suc v) n h)
-    (and-both (leb 1 least && leb least max-separation) (leb most max-separation && not-crossed least most)
-    (and-both (leb 1 least) (leb least max-separation) (le→leb 1 least (g .minimum .0)) (le→leb least max-separation (g .minimum .1)))
-    (and-both (leb most max-separation) (not-crossed least most) (le→leb most max-separation (g .maximum)) (g .apart)))
+    let minimum : ℕ = getD s minimum-at 0 in
+    let maximum : ℕ = getD s maximum-at 0 in
+    and-both (ltb (suc v) n) ((leb 1 minimum && leb minimum max-separation) && (leb maximum max-separation && not-crossed minimum maximum)) (lt→ltb (suc v) n h)
+    (and-both (leb 1 minimum && leb minimum max-separation) (leb maximum max-separation && not-crossed minimum maximum)
+    (and-both (leb 1 minimum) (leb minimum max-separation) (le→leb 1 minimum (g .minimum .0)) (le→leb minimum max-separation (g .minimum .1)))
+    (and-both (leb maximum max-separation) (not-crossed minimum maximum) (le→leb maximum max-separation (g .maximum)) (g .apart)))
 
 -- good pairs are proper
 pairs-proper : (n m v : ℕ) (s : List ℕ) → v + m < n → GoodPairs m s → T (all (proper-pair n) (pairs-of m v s))

@@ -1,7 +1,7 @@
--- What a row of a table of sheets says, from the sheet's bytes to the outcome, and one law: what a test that passes over a
--- whole table shows.
+-- What a row of a table of sheets says, from the sheet's bytes to the outcome, and one law: what a test that passes
+-- over a whole table shows.
 use Prim.Native.Nat.{ℕ}
-use mathlib.Core.Path.{_≡_, refl, _∙_, sym}
+use mathlib.Core.Path.{_≡_, refl}
 use mathlib.Core.Bool.{Bool, true, false, not, _&&_}
 use mathlib.Core.List.{List, [], _∷_}
 use lib.Dec.{T, eqb, eqb→eq}
@@ -21,11 +21,11 @@ use Rattle.drawing.specs.laws.HeldOnly.{leftmost-test, test-leftmost}
 
 -- a sheet's outcome, with the list that shows it
 pub data Outcome : Type 0 where
-  -- drawn, with this total and these places; the checker says yes to the list
+  -- drawn, with this total and these coordinates; the checker says yes to the list
   drawn : ℕ → List ℕ → List ℤ → Outcome
-  -- refusal 8
+  -- no drawing, as the list shows: refusal 8
   undrawable : List ℤ → Outcome
-  -- the checker says no to these places and this list
+  -- the checker says no to these coordinates and this list
   rejected : List ℕ → List ℤ → Outcome
 
 -- a sheet's bytes and its outcome
@@ -33,17 +33,17 @@ pub record Row : Type 0 where
   pub bytes : List ℕ
   pub outcome : Outcome
 
--- the places are the sheet's leftmost least drawing, the total is the sum of its lengths, and the list gets a yes
-pub record Drawn (numbers : List ℕ) (total : ℕ) (places : List ℕ) (list : List ℤ) : Type 0 where
-  pub leftmost : LeftmostDrawing (sheet-of numbers) places
-  pub sum : total-length (sheet-of numbers) places ≡ total
-  pub accepted : judged (sheet-of numbers) places list ≡ true
+-- the coordinates are the sheet's leftmost least drawing, the total is the sum of its lengths, and the list gets a yes
+pub record Drawn (numbers : List ℕ) (total : ℕ) (coordinates : List ℕ) (list : List ℤ) : Type 0 where
+  pub leftmost : LeftmostDrawing (sheet-of numbers) coordinates
+  pub sum : total-length (sheet-of numbers) coordinates ≡ total
+  pub accepted : judged (sheet-of numbers) coordinates list ≡ true
 
 -- what an outcome says of a sheet's numbers
 abbrev pub Says : List ℕ → Outcome → Type 0
-Says numbers (drawn total places list) = Drawn numbers total places list
-Says numbers (undrawable list) = (places : List ℕ) → Drawing (sheet-of numbers) places → ⊥
-Says numbers (rejected places list) = judged (sheet-of numbers) places list ≡ false
+Says numbers (drawn total coordinates list) = Drawn numbers total coordinates list
+Says numbers (undrawable list) = (coordinates : List ℕ) → Drawing (sheet-of numbers) coordinates → ⊥
+Says numbers (rejected coordinates list) = judged (sheet-of numbers) coordinates list ≡ false
 
 -- what a row says: the bytes read as a good sheet, and its outcome is this
 pub record Holds (r : Row) : Type 0 where
@@ -63,25 +63,25 @@ is-false false t = refl
 
 -- the test of an outcome
 abbrev pub passes : List ℕ → Outcome → Bool
-passes numbers (drawn total places list) =
-    (judged (sheet-of numbers) places list && leftmost-test (sheet-of numbers) places list) && eqb (total-length (sheet-of numbers) places) total
+passes numbers (drawn total coordinates list) =
+    (judged (sheet-of numbers) coordinates list && leftmost-test (sheet-of numbers) coordinates list) && eqb (total-length (sheet-of numbers) coordinates) total
 passes numbers (undrawable list) = shows-none (sheet-of numbers) list
-passes numbers (rejected places list) = not (judged (sheet-of numbers) places list)
+passes numbers (rejected coordinates list) = not (judged (sheet-of numbers) coordinates list)
 
 -- the test shows what the outcome says
 passes-says : (numbers : List ℕ) (o : Outcome) → T (passes numbers o) → Says numbers o
-passes-says numbers (drawn total places list) t =
-    let least : Bool = judged (sheet-of numbers) places list in
-    let leftmost : Bool = leftmost-test (sheet-of numbers) places list in
-    let equal : Bool = eqb (total-length (sheet-of numbers) places) total in
+passes-says numbers (drawn total coordinates list) t =
+    let least : Bool = judged (sheet-of numbers) coordinates list in
+    let leftmost : Bool = leftmost-test (sheet-of numbers) coordinates list in
+    let equal : Bool = eqb (total-length (sheet-of numbers) coordinates) total in
     let both : T (least && leftmost) = and-left (least && leftmost) equal t in
     record {
-      leftmost = test-leftmost numbers places list (judged-accepted numbers places list (and-left least leftmost both)) (and-right least leftmost both);
-      sum = eqb→eq (total-length (sheet-of numbers) places) total (and-right (least && leftmost) equal t);
+      leftmost = test-leftmost numbers coordinates list (judged-accepted numbers coordinates list (and-left least leftmost both)) (and-right least leftmost both);
+      sum = eqb→eq (total-length (sheet-of numbers) coordinates) total (and-right (least && leftmost) equal t);
       accepted = is-true least (and-left least leftmost both);
     }
 passes-says numbers (undrawable list) t = no-drawing (sheet-of numbers) list t
-passes-says numbers (rejected places list) t = is-false (judged (sheet-of numbers) places list) t
+passes-says numbers (rejected coordinates list) t = is-false (judged (sheet-of numbers) coordinates list) t
 
 -- the test of what reading gives
 abbrev pub passes-read : Result → Outcome → Bool

@@ -1,97 +1,113 @@
--- Document 01's drawings and totals are those of the network, and so are least and leftmost.
+-- Document 01's drawings and totals are those of the network, and so are least and leftmost: each arc tests and costs
+-- what document 01 says.
 use mathlib.Core.Path.{_≡_, refl, sym, _∙_, ap, ap₂, subst, subst₂}
 use mathlib.Core.List.{List, [], _∷_, map, flatMap}
 use mathlib.Core.Bool.{Bool, _&&_}
+use mathlib.Core.Logic.{⊎-elim}
 use Prim.Native.Nat.{ℕ, zero, suc, _+_, _-_, _≤_, _<_, zero-le}
-use native.Mathlib.Decide.{ℕ-discrete, decLt}
 use native.Mathlib.Nat.{le-of-eq, le-trans}
 use native.Mathlib.Omega.{arith}
 use lib.Dec.{T, leb, leb→le, le→leb}
-use lib.ListN.{length, getD, drop, length-map, List·getD-map, List·getD-eq-default}
+use lib.ListN.{length, getD, drop, length-map, List·getD-eq-default}
 use lib.IntN.{ℤ, pos, _+ℤ_, +ℤ-idr}
 use lib.Signed.{_≤ℤ_}
+use Rattle.leb128.specs.laws.Cases.{lt-or-le, eq-or-ne}
 use Rattle.network.specs.Sums.{sum, all}
 use Rattle.network.specs.laws.Tests.{and-left, and-right, and-both, all-ext, all-and, all-map, all-append, all-flat, all-image}
 use Rattle.network.specs.laws.Sums.{sum-append, sum-image, sum-flat, sum-null, sum-pos}
-use Rattle.network.specs.Network.{Network, Feasible, integers, Least, LeftmostLeast, potential, legal, cost, total}
+use Rattle.network.specs.Network.{Arc, Network, Feasible, integers, Least, LeftmostLeast, legal, cost, total}
 use Rattle.network.specs.Flows.{rules, bound as network-bound, complementary}
 use Rattle.network.specs.laws.Duality.{tight-equal, equal-tight, tight-feasible, equal-least}
 use Rattle.drawing.specs.Sheet.{Pair, Layer, Sheet, pairs-of, layers-of, first-nodes, sheet-of}
-use Rattle.sheet.specs.Layout.{next-layer}
-use Rattle.drawing.specs.Drawing.{coordinate, within-maximum, separated, aligned, edge-aligned, Drawing, edge-length, total-length, LeastDrawing, LeftmostDrawing}
-use Rattle.drawing.specs.Arcs.{edge-arc, upper-bound, layer-arcs, network}
-use Rattle.drawing.specs.laws.ArcTests.{edge-is, layer-is, edge-cost, layer-cost}
+use Rattle.sheet.specs.Layout.{layers-at, first-layer-at, nodes-at, separations-at, separation-stride, minimum-at, maximum-at, next-layer}
+use Rattle.drawing.specs.Drawing.{coordinate, within-maximum, separated, edge-aligned, Drawing, edge-length, total-length, LeastDrawing, LeftmostDrawing}
+use Rattle.drawing.specs.Arcs.{edge-arc, layer-arcs, network}
+use Rattle.drawing.specs.laws.ArcTests.{integer-coordinate, edge-is, layer-is, edge-cost, layer-cost}
 
--- a layer's pairs are apart and its last node is within the width
+-- a layer's pairs have their separations, and its last node is within the width
 abbrev layer-test : ℕ → List ℕ → Layer → Bool
 layer-test width p l = all (separated p) (l .pairs) && leb (coordinate p (l .first + length (l .pairs))) width
 
+-- the arcs of a sheet are legal where straight edges are straight and each layer passes its test
 legals-is : (S : Sheet) (p : List ℕ) → coordinate p (S .nodes) ≡ 0
     → all (legal (integers p)) (network S .arcs) ≡ (all (edge-aligned p) (S .edges) && all (layer-test (S .width) p) (S .layers))
 unfolding network
 legals-is S p e =
-    all-append (legal (integers p)) (map edge-arc (S .edges)) (flatMap (layer-arcs (S .width) (S .nodes)) (S .layers))
+    let arcs : Layer → List Arc = layer-arcs (S .width) (S .nodes) in
+    let test : Arc → Bool = legal (integers p) in
+    all-append test (map edge-arc (S .edges)) (flatMap arcs (S .layers))
     ∙ ap₂ _&&_
-    (all-image (legal (integers p)) edge-arc (S .edges) ∙ all-ext (λ x. legal (integers p) (edge-arc x)) (edge-aligned p) (λ x. edge-is p (x .kind) (x .upper) (x .lower)) (S .edges))
-    (all-flat (legal (integers p)) (layer-arcs (S .width) (S .nodes)) (S .layers) ∙ all-ext (λ l. all (legal (integers p)) (layer-arcs (S .width) (S .nodes) l)) (layer-test (S .width) p) (layer-is p (S .width) (S .nodes) e) (S .layers))
+    (all-image test edge-arc (S .edges) ∙ all-ext (λ x. test (edge-arc x)) (edge-aligned p) (λ x. edge-is p (x .kind) (x .upper) (x .lower)) (S .edges))
+    (all-flat test arcs (S .layers) ∙ all-ext (λ l. all test (arcs l)) (layer-test (S .width) p) (layer-is p (S .width) (S .nodes) e) (S .layers))
 
+-- where every coordinate is within w, each node's is
 pub inside-at : (w : ℕ) (p : List ℕ) → T (all (λ x. leb x w) p) → (v : ℕ) → coordinate p v ≤ w
 inside-at w [] t v = zero-le
 inside-at w (x ∷ p) t zero = leb→le x w (and-left (leb x w) (all (λ x. leb x w) p) t)
 inside-at w (x ∷ p) t (suc v) = inside-at w p (and-right (leb x w) (all (λ x. leb x w) p) t) v
 
+-- where each node's coordinate is within w, every one is
 pub at-inside : (w : ℕ) (p : List ℕ) → ((v : ℕ) → v < length p → coordinate p v ≤ w) → T (all (λ x. leb x w) p)
 at-inside w [] f = tt
 at-inside w (x ∷ p) f = and-both (leb x w) (all (λ x. leb x w) p) (le→leb x w (f 0 (omega arith))) (at-inside w p (λ v h. f (suc v) (omega arith)))
 
 module _ (S : Sheet) (p : List ℕ) where
+  -- ground, the node behind the last one, stands at 0
   pub ground-zero : length p ≡ S .nodes → coordinate p (S .nodes) ≡ 0
   ground-zero e = List·getD-eq-default p 0 (omega arith)
 
+  -- a drawing is feasible in the network
   pub drawing-feasible : Drawing S p → Feasible (network S) (integers p)
   unfolding network
-  drawing-feasible d = record {
-    size = length-map p pos ∙ d .size;
-    legals = rw (legals-is S p (ground-zero (d .size)))
-        (and-both (all (edge-aligned p) (S .edges)) (all (layer-test (S .width) p) (S .layers)) (d .straight)
-        (rw (all-and (λ l. all (separated p) (l .pairs)) (λ l. leb (coordinate p (l .first + length (l .pairs))) (S .width)) (S .layers))
-        (and-both (all (λ l. all (separated p) (l .pairs)) (S .layers)) (all (λ l. leb (coordinate p (l .first + length (l .pairs))) (S .width)) (S .layers)) (d .separations)
-        (always (λ l. leb (coordinate p (l .first + length (l .pairs))) (S .width)) (λ l. le→leb (coordinate p (l .first + length (l .pairs))) (S .width) (inside-at (S .width) p (d .inside) (l .first + length (l .pairs)))) (S .layers)))));
-  }
+  drawing-feasible d =
+      let last : Layer → ℕ = λ l. l .first + length (l .pairs) in
+      let apart : Layer → Bool = λ l. all (separated p) (l .pairs) in
+      let within : Layer → Bool = λ l. leb (coordinate p (last l)) (S .width) in
+      record {
+        size = length-map p pos ∙ d .size;
+        legals = rw (legals-is S p (ground-zero (d .size)))
+            (and-both (all (edge-aligned p) (S .edges)) (all (layer-test (S .width) p) (S .layers)) (d .straight)
+            (rw (all-and apart within (S .layers))
+            (and-both (all apart (S .layers)) (all within (S .layers)) (d .separations)
+            (always within (λ l. le→leb (coordinate p (last l)) (S .width) (inside-at (S .width) p (d .inside) (last l))) (S .layers)))));
+      }
     where
+      -- a test that each layer passes, all layers of a list pass
       always : (t : Layer → Bool) → ((l : Layer) → T (t l)) → (ls : List Layer) → T (all t ls)
       always t f [] = tt
       always t f (l ∷ ls) = and-both (t l) (all t ls) (f l) (always t f ls)
 
+  -- a drawing's total is its total in the network
   pub same-total : Drawing S p → total (network S) (integers p) ≡ pos (total-length S p)
   unfolding network total total-length
   same-total d =
-      sum-append (cost (integers p)) (map edge-arc (S .edges)) (flatMap (layer-arcs (S .width) (S .nodes)) (S .layers))
+      let arcs : Layer → List Arc = layer-arcs (S .width) (S .nodes) in
+      let costs : Arc → ℤ = cost (integers p) in
+      sum-append costs (map edge-arc (S .edges)) (flatMap arcs (S .layers))
       ∙ ap₂ _+ℤ_
-      (sum-image (cost (integers p)) edge-arc (S .edges) ∙ sum-pos (edge-aligned p) (λ e. cost (integers p) (edge-arc e)) (edge-length p) (λ e. edge-cost p (e .kind) (e .upper) (e .lower)) (S .edges) (d .straight))
-      (sum-flat (cost (integers p)) (layer-arcs (S .width) (S .nodes)) (S .layers) ∙ sum-null (λ l. sum (cost (integers p)) (layer-arcs (S .width) (S .nodes) l)) (layer-cost p (S .width) (S .nodes)) (S .layers))
+      (sum-image costs edge-arc (S .edges)
+      ∙ sum-pos (edge-aligned p) (λ e. costs (edge-arc e)) (edge-length p) (λ e. edge-cost p (e .kind) (e .upper) (e .lower)) (S .edges) (d .straight))
+      (sum-flat costs arcs (S .layers) ∙ sum-null (λ l. sum costs (arcs l)) (layer-cost p (S .width) (S .nodes)) (S .layers))
       ∙ +ℤ-idr (pos (total-length S p))
 
+-- there are as many pairs as are asked for
 pub length-pairs : (c v : ℕ) (s : List ℕ) → length (pairs-of c v s) ≡ c
 length-pairs zero v s = refl
-length-pairs (suc c) v s = ap suc (length-pairs c (suc v) (drop 2 s))
+length-pairs (suc c) v s = ap suc (length-pairs c (suc v) (drop separation-stride s))
 
--- the last of a layer's nodes is the rightmost: one more node on the left
+-- the last of a layer's nodes is the rightmost, with one more node on the left
 one-more : (p : List ℕ) (c v : ℕ) → coordinate p v ≤ coordinate p (suc v)
     → ((u : ℕ) → suc v ≤ u → u ≤ suc v + c → coordinate p u ≤ coordinate p (suc v + c))
     → (u : ℕ) → v ≤ u → u ≤ v + suc c → coordinate p u ≤ coordinate p (v + suc c)
-one-more p c v step rest u a b = subst (λ (w : ℕ). coordinate p u ≤ coordinate p w) (sums v c)
-    (elim (ℕ-discrete u v) [
-      | yes e ↦ subst (λ (w : ℕ). coordinate p w ≤ coordinate p (suc v + c)) (sym e) (omega (arith, rest (suc v) (omega arith) (omega arith)))
-      | no ne ↦ rest u (later u v a ne) (omega arith)
-    ])
-  where
-    sums : (v c : ℕ) → suc v + c ≡ v + suc c
-    sums v c = omega arith
+one-more p c v step rest u a b =
+    let same : suc v + c ≡ v + suc c = omega arith in
+    subst (λ (w : ℕ). coordinate p u ≤ coordinate p w) same
+    (⊎-elim
+    (λ (e : u ≡ v). subst (λ (w : ℕ). coordinate p w ≤ coordinate p (suc v + c)) (sym e) (omega (arith, rest (suc v) (omega arith) (omega arith))))
+    (λ (ne : u ≡ v → ⊥). rest u (omega arith) (omega arith))
+    (eq-or-ne u v))
 
-    later : (u v : ℕ) → v ≤ u → (u ≡ v → ⊥) → suc v ≤ u
-    later u v a ne = omega arith
-
+-- a pair's right node is not left of its left one
 separated-le : (p : List ℕ) (x : Pair) → T (separated p x) → coordinate p (x .left) ≤ coordinate p (suc (x .left))
 separated-le p x t =
     omega (
@@ -100,14 +116,16 @@ separated-le p x t =
           (and-left (leb (coordinate p (x .left) + x .minimum) (coordinate p (suc (x .left)))) (within-maximum (x .maximum) (coordinate p (x .left)) (coordinate p (suc (x .left)))) t),
     )
 
+-- no node of c pairs is right of the last one
 rightmost : (p : List ℕ) (c v : ℕ) (s : List ℕ) → T (all (separated p) (pairs-of c v s)) → (u : ℕ) → v ≤ u → u ≤ v + c → coordinate p u ≤ coordinate p (v + c)
 rightmost p zero v s t u a b = le-of-eq (ap (coordinate p) (omega arith))
 rightmost p (suc c) v s t u a b =
-    let x : Pair = record { left = v; minimum = getD s 0 0; maximum = getD s 1 0 } in
-    let xs : List Pair = pairs-of c (suc v) (drop 2 s) in
-    one-more p c v (separated-le p x (and-left (separated p x) (all (separated p) xs) t)) (rightmost p c (suc v) (drop 2 s) (and-right (separated p x) (all (separated p) xs) t)) u a b
+    let x : Pair = record { left = v; minimum = getD s minimum-at 0; maximum = getD s maximum-at 0 } in
+    let xs : List Pair = pairs-of c (suc v) (drop separation-stride s) in
+    one-more p c v (separated-le p x (and-left (separated p x) (all (separated p) xs) t))
+    (rightmost p c (suc v) (drop separation-stride s) (and-right (separated p x) (all (separated p) xs) t)) u a b
 
--- the nodes of a layer with c + 1 nodes, c its count less one
+-- the nodes of a layer of c nodes that passes its test are within the width
 in-layer : (width : ℕ) (p : List ℕ) (c v : ℕ) (s : List ℕ) → T (layer-test width p (record { first = v; pairs = pairs-of (c - 1) v s }))
     → (u : ℕ) → v ≤ u → u < v + c → coordinate p u ≤ width
 in-layer width p c v s t u a b =
@@ -116,21 +134,21 @@ in-layer width p c v s t u a b =
     le-trans (rightmost p (c - 1) v s (and-left (all (separated p) xs) (leb (coordinate p (v + length xs)) width) t) u a (omega arith))
     (subst (λ (n : ℕ). coordinate p (v + n) ≤ width) (length-pairs (c - 1) v s) last)
 
+-- the nodes of layers that pass their tests are within the width
 in-layers : (width : ℕ) (p : List ℕ) (k v : ℕ) (s : List ℕ) → T (all (layer-test width p) (layers-of k v s))
     → (u : ℕ) → v ≤ u → u < getD (first-nodes k v s) k 0 → coordinate p u ≤ width
 in-layers width p zero v s t u a b = absurd (omega arith)
 in-layers width p (suc k) v s t u a b =
-    let l : Layer = record { first = v; pairs = pairs-of (getD s 0 0 - 1) v (drop 1 s) } in
-    let ls : List Layer = layers-of k (v + getD s 0 0) (next-layer s) in
-    elim (decLt u (v + getD s 0 0)) [
-      | yes h ↦ in-layer width p (getD s 0 0) v (drop 1 s) (and-left (layer-test width p l) (all (layer-test width p) ls) t) u a h
-      | no h ↦ in-layers width p k (v + getD s 0 0) (next-layer s) (and-right (layer-test width p l) (all (layer-test width p) ls) t) u (beyond u (v + getD s 0 0) h) b
-    ]
-  where
-    beyond : (u w : ℕ) → (u < w → ⊥) → w ≤ u
-    beyond u w h = omega arith
+    let c : ℕ = getD s nodes-at 0 in
+    let l : Layer = record { first = v; pairs = pairs-of (c - 1) v (drop separations-at s) } in
+    let ls : List Layer = layers-of k (v + c) (next-layer s) in
+    ⊎-elim
+    (λ (here : u < v + c). in-layer width p c v (drop separations-at s) (and-left (layer-test width p l) (all (layer-test width p) ls) t) u a here)
+    (λ (past : v + c ≤ u). in-layers width p k (v + c) (next-layer s) (and-right (layer-test width p l) (all (layer-test width p) ls) t) u past b)
+    (lt-or-le u (v + c))
 
 module _ (s p : List ℕ) where
+  -- natural numbers that are feasible in the network are a drawing
   pub feasible-drawing : Feasible (network (sheet-of s)) (integers p) → Drawing (sheet-of s) p
   unfolding network sheet-of
   feasible-drawing d =
@@ -140,15 +158,17 @@ module _ (s p : List ℕ) where
       let ls : T (all (layer-test (S .width) p) (S .layers)) = and-right (all (edge-aligned p) (S .edges)) (all (layer-test (S .width) p) (S .layers)) t in
       record {
         size = size;
-        inside = at-inside (S .width) p (λ v h. in-layers (S .width) p (getD s 1 0) 0 (drop 2 s) ls v zero-le (omega arith));
-        separations = all-map (layer-test (S .width) p) (λ l. all (separated p) (l .pairs)) (λ l. and-left (all (separated p) (l .pairs)) (leb (coordinate p (l .first + length (l .pairs))) (S .width))) (S .layers) ls;
+        inside = at-inside (S .width) p (λ v h. in-layers (S .width) p (getD s layers-at 0) 0 (drop first-layer-at s) ls v zero-le (omega arith));
+        separations = all-map (layer-test (S .width) p) (λ l. all (separated p) (l .pairs))
+            (λ l. and-left (all (separated p) (l .pairs)) (leb (coordinate p (l .first + length (l .pairs))) (S .width))) (S .layers) ls;
         straight = and-left (all (edge-aligned p) (S .edges)) (all (layer-test (S .width) p) (S .layers)) t;
       }
 
+-- the order of natural numbers is that of the integers
 nat-le : {a b : ℕ} → pos a ≤ℤ pos b → a ≤ b
 nat-le {a} {b} h = leb→le a b (h .le)
 
--- 7. least and leftmost in the network are least and leftmost in document 01's words
+-- what is least in the network is a least drawing
 pub least-drawing : (s p : List ℕ) → Least (network (sheet-of s)) (integers p) → LeastDrawing (sheet-of s) p
 unfolding network
 least-drawing s p h =
@@ -158,18 +178,22 @@ least-drawing s p h =
       least = λ q dq. nat-le (subst₂ _≤ℤ_ (same-total (sheet-of s) p d) (same-total (sheet-of s) q dq) (h .least (integers q) (drawing-feasible (sheet-of s) q dq)));
     }
 
+-- what is leftmost among the least in the network is the leftmost least drawing
 pub leftmost-drawing : (s p : List ℕ) → LeftmostLeast (network (sheet-of s)) (integers p) → LeftmostDrawing (sheet-of s) p
 leftmost-drawing s p h =
     let m : LeastDrawing (sheet-of s) p = least-drawing s p (h .is-least) in
     record {
       is-least = m;
-      leftmost = λ q dq e v. nat-le (subst₂ _≤ℤ_ (List·getD-map pos p v 0) (List·getD-map pos q v 0)
+      leftmost = λ q dq e v. nat-le (subst₂ _≤ℤ_ (integer-coordinate p v) (integer-coordinate q v)
           (h .leftmost (integers q) (drawing-feasible (sheet-of s) q dq) (same-total (sheet-of s) q dq ∙ ap pos e ∙ sym (same-total (sheet-of s) p (m .drawing))) v));
     }
 
--- with a list y in hand that meets the rules: places with every arc tight, and leftmost among those, are best
-pub complementary-leftmost : (s p : List ℕ) (y : List ℤ) → T (rules (network (sheet-of s)) y) → length p ≡ sheet-of s .nodes → T (complementary (network (sheet-of s)) y (integers p))
-    → ((q : List ℕ) → length q ≡ sheet-of s .nodes → T (complementary (network (sheet-of s)) y (integers q)) → (v : ℕ) → coordinate p v ≤ coordinate q v) → LeftmostDrawing (sheet-of s) p
+-- with a list y that meets the rules: coordinates in complementary slackness, and leftmost among those, are the
+-- leftmost least drawing
+pub complementary-leftmost : (s p : List ℕ) (y : List ℤ) → T (rules (network (sheet-of s)) y) → length p ≡ sheet-of s .nodes
+    → T (complementary (network (sheet-of s)) y (integers p))
+    → ((q : List ℕ) → length q ≡ sheet-of s .nodes → T (complementary (network (sheet-of s)) y (integers q)) → (v : ℕ) → coordinate p v ≤ coordinate q v)
+    → LeftmostDrawing (sheet-of s) p
 unfolding network
 complementary-leftmost s p y rule size t first =
     let N : Network = network (sheet-of s) in
@@ -178,6 +202,6 @@ complementary-leftmost s p y rule size t first =
     let m : LeastDrawing (sheet-of s) p = least-drawing s p (equal-least N y (integers p) rule d e) in
     record {
       is-least = m;
-      leftmost = λ q dq aligned. first q (dq .size) (equal-tight N y (integers q) rule (drawing-feasible (sheet-of s) q dq)
-          (same-total (sheet-of s) q dq ∙ ap pos aligned ∙ sym (same-total (sheet-of s) p (m .drawing)) ∙ e));
+      leftmost = λ q dq equal. first q (dq .size) (equal-tight N y (integers q) rule (drawing-feasible (sheet-of s) q dq)
+          (same-total (sheet-of s) q dq ∙ ap pos equal ∙ sym (same-total (sheet-of s) p (m .drawing)) ∙ e));
     }

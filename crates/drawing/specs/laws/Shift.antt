@@ -6,7 +6,7 @@ use Prim.Native.Nat.{ℕ, zero, suc, _+_, _-_, _≤_, _<_, zero-le}
 use native.Mathlib.Nat.{le-of-suc-le-suc, not-suc-le-zero}
 use native.Mathlib.Omega.{arith}
 use lib.Dec.{T, ltb, ltb→lt, leb, leb→le, le→leb, eqb, eqb-refl}
-use lib.ListN.{length, getD, length-map, List·getD-map}
+use lib.ListN.{length, getD, length-map}
 use lib.IntN.{ℤ, pos, negℤ, _+ℤ_, _-ℤ_, natAbs}
 use lib.Signed.{_≤ℤ_, leZ, ltZ, leZ-yes, ltZ-no, ≤ℤ-refl}
 use Rattle.network.specs.laws.IntegerParts.{up, down, le-parts, parts-le, sum-parts, up-neg, down-neg, min-parts}
@@ -17,6 +17,7 @@ use Rattle.network.specs.laws.Tests.{not-not, and-left, and-right, and-both, al
 use Rattle.network.specs.laws.Sums.{sumℕ-ext}
 use Rattle.network.specs.Network.{potential, integers}
 use Rattle.drawing.specs.Assignment.{least-of, greatest-of, extent, within-maximumZ, separatedZ, alignedZ, edge-alignedZ, Assignment, edge-lengthZ, total-lengthZ}
+use Rattle.drawing.specs.laws.ArcTests.{integer-coordinate}
 use Rattle.drawing.specs.laws.Extents.{least-le, le-greatest, least-is, greatest-is}
 use Rattle.drawing.specs.Sheet.{Pair, Edge, Sheet}
 use Rattle.drawing.specs.Drawing.{coordinate, within-maximum, separated, aligned, edge-aligned, Drawing, edge-length, total-length}
@@ -25,16 +26,18 @@ use Rattle.sheet.specs.Limits.{max-separation, max-kind}
 use Rattle.drawing.specs.laws.Good.{not-crossed}
 use Rattle.drawing.specs.laws.Proper.{proper-pair, proper-edge, Proper}
 
+-- the distances from the least coordinate
 abbrev pub shifted : List ℤ → List ℕ
 shifted x = map (gap (least-of x)) x
 
+-- an element of a mapped list, where it is there
 mapped : {A B : Type 0} (f : A → B) (xs : List A) (d : A) (e : B) (v : ℕ) → v < length xs → getD (map f xs) v e ≡ f (getD xs v d)
 mapped f [] d e v h = absurd (not-suc-le-zero h)
 mapped f (x ∷ xs) d e zero h = refl
 mapped f (x ∷ xs) d e (suc v) h = mapped f xs d e v (le-of-suc-le-suc h)
 
 module _ (x : List ℤ) where
-  -- a coordinate is the least one and the place more
+  -- a coordinate is the least one and the shifted one together, as an equation of natural numbers
   shift-parts : (v : ℕ) → v < length x → up (potential x v) + down (least-of x) ≡ down (potential x v) + (up (least-of x) + coordinate (shifted x) v)
   unfolding up down
   shift-parts v h =
@@ -43,24 +46,31 @@ module _ (x : List ℤ) where
       let e : potential x v ≡ m +ℤ pos k = gap-is (least-le x v h) in
       omega (arith, ap up e, ap down e, sum-parts m (pos k), mapped (gap m) x (pos 0) 0 v h)
 
+  -- two nodes u and v
   module _ (u v : ℕ) (hu : u < length x) (hv : v < length x) where
-    shift-least : (d : ℕ) → T (leZ (potential x u +ℤ pos d) (potential x v)) → T (leb (coordinate (shifted x) u + d) (coordinate (shifted x) v))
+    -- a shift keeps a minimum separation
+    shift-minimum : (d : ℕ) → T (leZ (potential x u +ℤ pos d) (potential x v)) → T (leb (coordinate (shifted x) u + d) (coordinate (shifted x) v))
     unfolding up down
-    shift-least d t = le→leb (coordinate (shifted x) u + d) (coordinate (shifted x) v)
+    shift-minimum d t = le→leb (coordinate (shifted x) u + d) (coordinate (shifted x) v)
         (omega (arith, le-parts {a = potential x u +ℤ pos d} {b = potential x v} (leZ-yes t), sum-parts (potential x u) (pos d), shift-parts u hu, shift-parts v hv))
 
-    shift-near : (g : ℕ) → T (within-maximumZ g (potential x u) (potential x v)) → T (within-maximum g (coordinate (shifted x) u) (coordinate (shifted x) v))
+    -- a shift keeps a maximum separation, where one is set
+    shift-maximum : (maximum : ℕ) → T (within-maximumZ maximum (potential x u) (potential x v)) → T (within-maximum maximum (coordinate (shifted x) u) (coordinate (shifted x) v))
     unfolding up down
-    shift-near zero t = tt
-    shift-near (suc g) t = le→leb (coordinate (shifted x) v) (coordinate (shifted x) u + suc g)
-        (omega (arith, le-parts {a = potential x v} {b = potential x u +ℤ pos (suc g)} (leZ-yes t), sum-parts (potential x u) (pos (suc g)), shift-parts u hu, shift-parts v hv))
+    shift-maximum zero t = tt
+    shift-maximum (suc maximum) t =
+        let within : potential x v ≤ℤ (potential x u +ℤ pos (suc maximum)) = leZ-yes t in
+        le→leb (coordinate (shifted x) v) (coordinate (shifted x) u + suc maximum)
+        (omega (arith, le-parts within, sum-parts (potential x u) (pos (suc maximum)), shift-parts u hu, shift-parts v hv))
 
-    shift-same : (kind : ℕ) → T (alignedZ kind (potential x u) (potential x v)) → T (aligned kind (coordinate (shifted x) u) (coordinate (shifted x) v))
-    shift-same zero t = tt
-    shift-same (suc kind) t =
+    -- a shift keeps a straight edge straight
+    shift-aligned : (kind : ℕ) → T (alignedZ kind (potential x u) (potential x v)) → T (aligned kind (coordinate (shifted x) u) (coordinate (shifted x) v))
+    shift-aligned zero t = tt
+    shift-aligned (suc kind) t =
         let e : potential x u ≡ potential x v = eqZ→eq (potential x u) (potential x v) t in
         subst (λ (n : ℕ). T (eqb (coordinate (shifted x) u) n)) (omega (arith, ap up e, ap down e, shift-parts u hu, shift-parts v hv)) (eqb-refl (coordinate (shifted x) u))
 
+    -- a shift keeps the length of an edge
     shift-length : (coordinate (shifted x) v - coordinate (shifted x) u) + (coordinate (shifted x) u - coordinate (shifted x) v) ≡ natAbs (potential x v -ℤ potential x u)
     shift-length = omega (
       arith,
@@ -73,6 +83,7 @@ module _ (x : List ℤ) where
       shift-parts v hv,
     )
 
+  -- where the extent is at most w, every shifted coordinate is
   shift-inside : (w : ℕ) → extent x ≤ℤ pos w → (v : ℕ) → v < length x → coordinate (shifted x) v ≤ w
   unfolding up down
   shift-inside w h v l = omega (
@@ -85,15 +96,17 @@ module _ (x : List ℤ) where
     shift-parts v l,
   )
 
+-- what stands at least 1 further right is greater
 less : (a b : ℤ) (k : ℕ) → 1 ≤ k → T (leZ (a +ℤ pos k) b) → T (ltZ a b)
 unfolding up down
 less a b k h t = not-not (ltZ a b) (λ n. omega (arith, le-parts {a = b} {b = a} (ltZ-no n), le-parts {a = a +ℤ pos k} {b = b} (leZ-yes t), sum-parts a (pos k)))
 
 module _ (S : Sheet) (proper : Proper S) (x : List ℤ) (a : Assignment S x) where
+  -- a node has a coordinate
   inside : (v : ℕ) → T (ltb v (S .nodes)) → v < length x
   inside v t = omega (arith, ltb→lt v (S .nodes) t, a .size)
 
-  -- the two ends of an edge are nodes
+  -- the two ends of an edge have coordinates
   ends : (e : Edge) → T (proper-edge (S .nodes) e) → (e .upper < length x) × (e .lower < length x)
   ends e t =
       let both : T (ltb (e .upper) (S .nodes) && ltb (e .lower) (S .nodes)) = and-left (ltb (e .upper) (S .nodes) && ltb (e .lower) (S .nodes)) (leb (e .kind) max-kind) t in (
@@ -101,6 +114,7 @@ module _ (S : Sheet) (proper : Proper S) (x : List ℤ) (a : Assignment S x) whe
         inside (e .lower) (and-right (ltb (e .upper) (S .nodes)) (ltb (e .lower) (S .nodes)) both),
       )
 
+  -- a shift keeps the separations of a pair
   separated-shifted : (n : Pair) → T (proper-pair (S .nodes) n) → T (separatedZ x n) → T (separated (shifted x) n)
   separated-shifted n i t =
       let p : List ℕ = shifted x in
@@ -108,11 +122,12 @@ module _ (S : Sheet) (proper : Proper S) (x : List ℤ) (a : Assignment S x) whe
       let limits : Bool = (leb 1 (n .minimum) && leb (n .minimum) max-separation) && (leb (n .maximum) max-separation && not-crossed (n .minimum) (n .maximum)) in
       let hr : suc l < length x = inside (suc l) (and-left (ltb (suc l) (S .nodes)) limits i) in
       let hl : l < length x = omega arith in
-      let least : Bool = leZ (potential x l +ℤ pos (n .minimum)) (potential x (suc l)) in
-      let close : Bool = within-maximumZ (n .maximum) (potential x l) (potential x (suc l)) in
+      let minimum : Bool = leZ (potential x l +ℤ pos (n .minimum)) (potential x (suc l)) in
+      let maximum : Bool = within-maximumZ (n .maximum) (potential x l) (potential x (suc l)) in
       and-both (leb (coordinate p l + n .minimum) (coordinate p (suc l))) (within-maximum (n .maximum) (coordinate p l) (coordinate p (suc l)))
-      (shift-least x l (suc l) hl hr (n .minimum) (and-left least close t)) (shift-near x l (suc l) hl hr (n .maximum) (and-right least close t))
+      (shift-minimum x l (suc l) hl hr (n .minimum) (and-left minimum maximum t)) (shift-maximum x l (suc l) hl hr (n .maximum) (and-right minimum maximum t))
 
+  -- a shifted assignment is a drawing
   pub shifted-drawing : Drawing S (shifted x)
   shifted-drawing = record {
     size = length-map x (gap (least-of x)) ∙ a .size;
@@ -120,9 +135,10 @@ module _ (S : Sheet) (proper : Proper S) (x : List ℤ) (a : Assignment S x) whe
     separations = all-map₂ (λ l. all (proper-pair (S .nodes)) (l .pairs)) (λ l. all (separatedZ x) (l .pairs)) (λ l. all (separated (shifted x)) (l .pairs))
         (λ l. all-map₂ (proper-pair (S .nodes)) (separatedZ x) (separated (shifted x)) separated-shifted (l .pairs)) (S .layers) (proper .pairs) (a .separations);
     straight = all-map₂ (proper-edge (S .nodes)) (edge-alignedZ x) (edge-aligned (shifted x))
-        (λ e i. shift-same x (e .upper) (e .lower) (ends e i .0) (ends e i .1) (e .kind)) (S .edges) (proper .ends) (a .straight);
+        (λ e i. shift-aligned x (e .upper) (e .lower) (ends e i .0) (ends e i .1) (e .kind)) (S .edges) (proper .ends) (a .straight);
   }
 
+  -- with the same total
   pub shifted-total : total-length S (shifted x) ≡ total-lengthZ S x
   unfolding total-length total-lengthZ
   shifted-total = sumℕ-ext (proper-edge (S .nodes)) (edge-length (shifted x)) (edge-lengthZ x)
@@ -133,36 +149,41 @@ module _ (S : Sheet) (proper : Proper S) (x : List ℤ) (a : Assignment S x) whe
   ordered = all-map₂ (λ l. all (proper-pair (S .nodes)) (l .pairs)) (λ l. all (separatedZ x) (l .pairs)) (λ l. all (λ n. ltZ (potential x (n .left)) (potential x (suc (n .left)))) (l .pairs))
       (λ l. all-map₂ (proper-pair (S .nodes)) (separatedZ x) (λ n. ltZ (potential x (n .left)) (potential x (suc (n .left)))) before (l .pairs)) (S .layers) (proper .pairs) (a .separations)
     where
+      -- a pair's left node is left of its right one, as a minimum separation is 1 at least
       before : (n : Pair) → T (proper-pair (S .nodes) n) → T (separatedZ x n) → T (ltZ (potential x (n .left)) (potential x (suc (n .left))))
       before n i t =
           let l : ℤ = potential x (n .left) in
           let r : ℤ = potential x (suc (n .left)) in
           let low : Bool = leb 1 (n .minimum) && leb (n .minimum) max-separation in
           let high : Bool = leb (n .maximum) max-separation && not-crossed (n .minimum) (n .maximum) in
-          less l r (n .minimum) (leb→le 1 (n .minimum) (and-left (leb 1 (n .minimum)) (leb (n .minimum) max-separation) (and-left low high (and-right (ltb (suc (n .left)) (S .nodes)) (low && high) i))))
+          let limits : T (low && high) = and-right (ltb (suc (n .left)) (S .nodes)) (low && high) i in
+          let positive : T (leb 1 (n .minimum)) = and-left (leb 1 (n .minimum)) (leb (n .minimum) max-separation) (and-left low high limits) in
+          less l r (n .minimum) (leb→le 1 (n .minimum) positive)
           (and-left (leZ (l +ℤ pos (n .minimum)) r) (within-maximumZ (n .maximum) l r) t)
 
 module _ (p : List ℕ) where
-  integer-coordinate : (v : ℕ) → potential (integers p) v ≡ pos (coordinate p v)
-  integer-coordinate v = List·getD-map pos p v 0
+  -- a drawing as integers: the test of a minimum separation
+  minimum-is : (d u v : ℕ) → leZ (potential (integers p) u +ℤ pos d) (potential (integers p) v) ≡ leb (coordinate p u + d) (coordinate p v)
+  minimum-is d u v = rw (integer-coordinate p u, integer-coordinate p v)
 
-  far-is : (d u v : ℕ) → leZ (potential (integers p) u +ℤ pos d) (potential (integers p) v) ≡ leb (coordinate p u + d) (coordinate p v)
-  far-is d u v = rw (integer-coordinate u, integer-coordinate v)
+  -- the test of a maximum separation
+  maximum-is : (maximum u v : ℕ) → within-maximumZ maximum (potential (integers p) u) (potential (integers p) v) ≡ within-maximum maximum (coordinate p u) (coordinate p v)
+  maximum-is zero u v = refl
+  maximum-is (suc maximum) u v = rw (integer-coordinate p u, integer-coordinate p v)
 
-  near-is : (g u v : ℕ) → within-maximumZ g (potential (integers p) u) (potential (integers p) v) ≡ within-maximum g (coordinate p u) (coordinate p v)
-  near-is zero u v = refl
-  near-is (suc g) u v = rw (integer-coordinate u, integer-coordinate v)
+  -- the test of a straight edge
+  aligned-is : (kind u v : ℕ) → alignedZ kind (potential (integers p) u) (potential (integers p) v) ≡ aligned kind (coordinate p u) (coordinate p v)
+  aligned-is zero u v = refl
+  aligned-is (suc kind) u v = rw (integer-coordinate p u, integer-coordinate p v)
 
-  same-is : (kind u v : ℕ) → alignedZ kind (potential (integers p) u) (potential (integers p) v) ≡ aligned kind (coordinate p u) (coordinate p v)
-  same-is zero u v = refl
-  same-is (suc kind) u v = rw (integer-coordinate u, integer-coordinate v)
-
+  -- the test of a pair
   separated-is : (n : Pair) → separatedZ (integers p) n ≡ separated p n
-  separated-is n = ap₂ _&&_ (far-is (n .minimum) (n .left) (suc (n .left))) (near-is (n .maximum) (n .left) (suc (n .left)))
+  separated-is n = ap₂ _&&_ (minimum-is (n .minimum) (n .left) (suc (n .left))) (maximum-is (n .maximum) (n .left) (suc (n .left)))
 
+  -- the length of an edge
   length-is : (e : Edge) → edge-lengthZ (integers p) e ≡ edge-length p e
   unfolding up down
-  length-is e = rw (integer-coordinate (e .lower), integer-coordinate (e .upper)) (omega (
+  length-is e = rw (integer-coordinate p (e .lower), integer-coordinate p (e .upper)) (omega (
     arith,
     size-parts (pos (coordinate p (e .lower)) -ℤ pos (coordinate p (e .upper))),
     min-parts (pos (coordinate p (e .lower)) -ℤ pos (coordinate p (e .upper))),
@@ -172,19 +193,29 @@ module _ (p : List ℕ) where
   ))
 
 module _ (S : Sheet) (p : List ℕ) where
+  -- a drawing is an assignment
   pub drawing-assignment : Drawing S p → Assignment S (integers p)
   unfolding up down
   drawing-assignment d = record {
     size = length-map p pos ∙ d .size;
-    separations = subst T (sym (all-ext (λ l. all (separatedZ (integers p)) (l .pairs)) (λ l. all (separated p) (l .pairs)) (λ l. all-ext (separatedZ (integers p)) (separated p) (separated-is p) (l .pairs)) (S .layers))) (d .separations);
-    straight = subst T (sym (all-ext (edge-alignedZ (integers p)) (edge-aligned p) (λ e. same-is p (e .kind) (e .upper) (e .lower)) (S .edges))) (d .straight);
+    separations = subst T
+        (sym (all-ext (λ l. all (separatedZ (integers p)) (l .pairs)) (λ l. all (separated p) (l .pairs))
+        (λ l. all-ext (separatedZ (integers p)) (separated p) (separated-is p) (l .pairs)) (S .layers)))
+        (d .separations);
+    straight = subst T (sym (all-ext (edge-alignedZ (integers p)) (edge-aligned p) (λ e. aligned-is p (e .kind) (e .upper) (e .lower)) (S .edges))) (d .straight);
     narrow =
-        let low : pos 0 ≤ℤ least-of (integers p) = least-is (λ z. pos 0 ≤ℤ z) (≤ℤ-refl (pos 0)) (integers p) (λ v. rw (integer-coordinate p v) (leZ-yes (le→leb 0 (coordinate p v) zero-le))) in
-        let high : greatest-of (integers p) ≤ℤ pos (S .width) = greatest-is (λ z. z ≤ℤ pos (S .width)) (leZ-yes (le→leb 0 (S .width) zero-le)) (integers p)
-        (λ v. rw (integer-coordinate p v) (leZ-yes (le→leb (coordinate p v) (S .width) (inside-at (S .width) p (d .inside) v)))) in
-        parts-le (extent (integers p)) (pos (S .width)) (omega (arith, le-parts low, le-parts high, sum-parts (greatest-of (integers p)) (negℤ (least-of (integers p))), up-neg (least-of (integers p)), down-neg (least-of (integers p))));
+        let W : ℤ = pos (S .width) in
+        let least : ℤ = least-of (integers p) in
+        let greatest : ℤ = greatest-of (integers p) in
+        let natural : (v : ℕ) → pos 0 ≤ℤ potential (integers p) v = λ v. rw (integer-coordinate p v) (leZ-yes (le→leb 0 (coordinate p v) zero-le)) in
+        let fits : (v : ℕ) → coordinate p v ≤ S .width = inside-at (S .width) p (d .inside) in
+        let within : (v : ℕ) → potential (integers p) v ≤ℤ W = λ v. rw (integer-coordinate p v) (leZ-yes (le→leb (coordinate p v) (S .width) (fits v))) in
+        let low : pos 0 ≤ℤ least = least-is (λ z. pos 0 ≤ℤ z) (≤ℤ-refl (pos 0)) (integers p) natural in
+        let high : greatest ≤ℤ W = greatest-is (λ z. z ≤ℤ W) (leZ-yes (le→leb 0 (S .width) zero-le)) (integers p) within in
+        parts-le (extent (integers p)) W (omega (arith, le-parts low, le-parts high, sum-parts greatest (negℤ least), up-neg least, down-neg least));
   }
 
+  -- with the same total
   pub drawing-length : total-lengthZ S (integers p) ≡ total-length S p
   unfolding total-length total-lengthZ
   drawing-length = ap (λ (f : Edge → ℕ). sumℕ f (S .edges)) (fun-ext (length-is p))

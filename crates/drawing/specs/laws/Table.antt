@@ -1,5 +1,5 @@
--- The marked sheets of document 01, "Sheets on either side of each edge", as one table, from their bytes to the outcome, proved
--- by one test that is computed over the whole table.
+-- The marked sheets of document 01, "Sheets on either side of each edge", as one table, from their bytes to the
+-- outcome, proved by one test that is computed over the whole table.
 use Prim.Native.Nat.{ℕ}
 use mathlib.Core.List.{List, [], _∷_, _++_, flatMap}
 use lib.IntN.{ℤ, pos, negsuc}
@@ -22,7 +22,7 @@ use Rattle.drawing.specs.laws.HeldOnly.{leftmost-test}
 use Rattle.drawing.specs.laws.Rows.{Outcome, Row, Every, every}
 use Rattle.drawing.specs.laws.Rows.Outcome.{drawn, undrawable, rejected}
 
--- the bytes of a sheet, behind its opening
+-- the bytes of a sheet: its opening, and the rest
 sp1 : List ℕ → List ℕ
 sp1 rest = magic ++ rest
 
@@ -34,13 +34,13 @@ first = sp1 (5 ∷ 2 ∷ 2 ∷ 1 ∷ 0 ∷ 1 ∷ 2 ∷ 1 ∷ 1 ∷ 1 ∷ 0 ∷ 1
 stair : ℕ → ℕ → List ℕ
 stair width kind = sp1 (width ∷ 3 ∷ 2 ∷ 1 ∷ 0 ∷ 2 ∷ 1 ∷ 0 ∷ 2 ∷ 1 ∷ 0 ∷ 2 ∷ 1 ∷ 2 ∷ 1 ∷ 0 ∷ 2 ∷ 2 ∷ 1 ∷ kind ∷ [])
 
--- straight edges that cross, at width 4,095
-crossed-leads : List ℕ
-crossed-leads = sp1 (0xff ∷ 0x1f ∷ 2 ∷ 2 ∷ 1 ∷ 0 ∷ 2 ∷ 1 ∷ 0 ∷ 2 ∷ 1 ∷ 1 ∷ 2 ∷ 1 ∷ 1 ∷ 2 ∷ 1 ∷ 1 ∷ [])
+-- straight edges that cross, at the greatest width allowed
+crossed-edges : List ℕ
+crossed-edges = sp1 (0xff ∷ 0x1f ∷ 2 ∷ 2 ∷ 1 ∷ 0 ∷ 2 ∷ 1 ∷ 0 ∷ 2 ∷ 1 ∷ 1 ∷ 2 ∷ 1 ∷ 1 ∷ 2 ∷ 1 ∷ 1 ∷ [])
 
 -- two over three, by the upper maximum separation
 wide : ℕ → List ℕ
-wide greatest = sp1 (2 ∷ 2 ∷ 2 ∷ 1 ∷ greatest ∷ 3 ∷ 1 ∷ 0 ∷ 1 ∷ 0 ∷ 2 ∷ 1 ∷ 1 ∷ 1 ∷ 0 ∷ 1 ∷ 2 ∷ 3 ∷ 0 ∷ [])
+wide maximum = sp1 (2 ∷ 2 ∷ 2 ∷ 1 ∷ maximum ∷ 3 ∷ 1 ∷ 0 ∷ 1 ∷ 0 ∷ 2 ∷ 1 ∷ 1 ∷ 1 ∷ 0 ∷ 1 ∷ 2 ∷ 3 ∷ 0 ∷ [])
 
 -- one node over three
 over : List ℕ
@@ -54,27 +54,27 @@ lone = sp1 (0 ∷ 1 ∷ 1 ∷ 0 ∷ [])
 row : List ℕ → Outcome → Row
 row bytes o = record { bytes = bytes; outcome = o }
 
--- the numbers of a list
+-- a multiplier of 0
 +0 : ℤ
 +0 = pos 0
 
--- one to greater places
+-- a multiplier of 1
 +1 : ℤ
 +1 = pos 1
 
--- one to smaller places
+-- a multiplier of −1
 −1 : ℤ
 −1 = negsuc 0
 
--- a list of zeros
+-- n multipliers of 0
 zeros : ℕ → List ℤ
 zeros n = replicate n (pos 0)
 
--- the list of the stair's widths 1 and 2
+-- the list that shows the totals of the stair at widths 1 and 2
 stairs : List ℤ
 stairs = −1 ∷ −1 ∷ +1 ∷ +1 ∷ +0 ∷ +0 ∷ +0 ∷ +1 ∷ +0 ∷ +0 ∷ +0 ∷ +1 ∷ +0 ∷ +1 ∷ []
 
--- the table
+-- the rows of the table
 pub table : List Row
 table =
     row first (drawn 1 (0 ∷ 1 ∷ 0 ∷ []) (+1 ∷ −1 ∷ +0 ∷ +1 ∷ +0 ∷ +0 ∷ +0 ∷ +0 ∷ []))
@@ -85,7 +85,7 @@ table =
     ∷ row (stair 3 0) (drawn 0 (0 ∷ 1 ∷ 1 ∷ 2 ∷ 2 ∷ 3 ∷ []) (zeros 14))
     ∷ row (stair 1 1) (undrawable (+0 ∷ −1 ∷ +0 ∷ +0 ∷ +0 ∷ +0 ∷ +1 ∷ +1 ∷ +0 ∷ +0 ∷ +0 ∷ +1 ∷ +0 ∷ +1 ∷ []))
     ∷ row (stair 2 1) (drawn 1 (0 ∷ 1 ∷ 0 ∷ 1 ∷ 1 ∷ 2 ∷ []) stairs)
-    ∷ row crossed-leads (undrawable (+1 ∷ −1 ∷ +0 ∷ +1 ∷ +0 ∷ +0 ∷ +0 ∷ +1 ∷ +0 ∷ +0 ∷ []))
+    ∷ row crossed-edges (undrawable (+1 ∷ −1 ∷ +0 ∷ +1 ∷ +0 ∷ +0 ∷ +0 ∷ +1 ∷ +0 ∷ +0 ∷ []))
     ∷ row (wide 1) (drawn 1 (0 ∷ 1 ∷ 0 ∷ 1 ∷ 2 ∷ []) (−1 ∷ +1 ∷ +0 ∷ +0 ∷ +1 ∷ +0 ∷ +0 ∷ +1 ∷ +0 ∷ +1 ∷ +0 ∷ +0 ∷ []))
     ∷ row (wide 0) (drawn 0 (0 ∷ 2 ∷ 0 ∷ 1 ∷ 2 ∷ []) (zeros 12))
     ∷ row over (drawn 2 (2 ∷ 0 ∷ 1 ∷ 2 ∷ []) (−1 ∷ +1 ∷ +0 ∷ +0 ∷ +0 ∷ +0 ∷ +1 ∷ +0 ∷ +1 ∷ +0 ∷ +0 ∷ []))
@@ -94,5 +94,5 @@ table =
 
 -- every row holds
 pub sheets : Every table
-unfolding flatMap sp1 first stair crossed-leads wide over lone row +0 +1 −1 zeros stairs table sheet-of total-length is-drawing meets-rules bound judged constraints held-set leftmost-test shows-none decode grouped within both crossed separation separations layers edge edges sheet decoded-item byte-item raised in-bytes checked led followed walk same complete walk-bytes made reading
+unfolding flatMap sp1 first stair crossed-edges wide over lone row +0 +1 −1 zeros stairs table sheet-of total-length is-drawing meets-rules bound judged constraints held-set leftmost-test shows-none decode grouped within both crossed separation separations layers edge edges sheet decoded-item byte-item raised in-bytes checked led followed walk same complete walk-bytes made reading
 sheets = every table tt

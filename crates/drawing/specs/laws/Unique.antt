@@ -1,4 +1,4 @@
--- What document 01's promises determine: the best drawing is one, and its total is small.
+-- What document 01's promises determine: the leftmost least drawing is one, and its total is small.
 use mathlib.Core.Path.{_≡_, sym, _∙_}
 use mathlib.Core.List.{List, [], _∷_}
 use Prim.Native.Nat.{ℕ, _*_, _≤_}
@@ -7,27 +7,31 @@ use native.Mathlib.Omega.{arith}
 use lib.ListN.{length}
 use lib.Seq.{ext-getD}
 use Rattle.network.specs.Sums.{sumℕ}
+use Rattle.sheet.specs.Limits.{max-width, max-edges}
 use Rattle.drawing.specs.Sheet.{Edge, Sheet}
 use Rattle.drawing.specs.laws.Proper.{Proper}
 use Rattle.drawing.specs.Drawing.{Drawing, edge-length, total-length, LeftmostDrawing}
 use Rattle.drawing.specs.laws.SameDrawings.{inside-at}
 
--- a sheet has one best drawing at most
+-- a sheet has one leftmost least drawing at most
 pub leftmost-unique : (S : Sheet) (p q : List ℕ) → LeftmostDrawing S p → LeftmostDrawing S q → p ≡ q
 leftmost-unique S p q a b =
     let e : total-length S p ≡ total-length S q = le-antisymm (a .is-least .least q (b .is-least .drawing)) (b .is-least .least p (a .is-least .drawing)) in
     ext-getD 0 p q (a .is-least .drawing .size ∙ sym (b .is-least .drawing .size))
     (λ i h. le-antisymm (a .leftmost q (b .is-least .drawing) (sym e) i) (b .leftmost p (a .is-least .drawing) e i))
 
--- no edge is longer than the width
+-- lengths of at most w each add up to at most w for each edge
 sum-le : (f : Edge → ℕ) (w : ℕ) → ((e : Edge) → f e ≤ w) → (es : List Edge) → sumℕ f es ≤ length es * w
 sum-le f w h [] = omega arith
 sum-le f w h (e ∷ es) = omega (arith, h e, sum-le f w h es)
 
+-- no edge is longer than the width, so no total is above their product
 pub total-le : (S : Sheet) (p : List ℕ) → Drawing S p → total-length S p ≤ length (S .edges) * S .width
 unfolding total-length
-total-le S p d = sum-le (edge-length p) (S .width) (λ e. omega (arith, inside-at (S .width) p (d .inside) (e .upper), inside-at (S .width) p (d .inside) (e .lower))) (S .edges)
+total-le S p d =
+    sum-le (edge-length p) (S .width)
+    (λ e. omega (arith, inside-at (S .width) p (d .inside) (e .upper), inside-at (S .width) p (d .inside) (e .lower))) (S .edges)
 
--- so no sheet's total passes 512 × 4,095: refusal 9 never comes
-pub total-small : (S : Sheet) (p : List ℕ) → Proper S → Drawing S p → total-length S p ≤ 2096640
+-- so no total of a proper sheet is above the greatest number of edges × the greatest width: refusal 9 never comes
+pub total-small : (S : Sheet) (p : List ℕ) → Proper S → Drawing S p → total-length S p ≤ max-edges * max-width
 total-small S p proper d = le-trans (total-le S p d) (mul-le-mul (proper .few) (proper .width))

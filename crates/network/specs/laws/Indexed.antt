@@ -1,6 +1,6 @@
 -- Lists by index, as loops make and read them: one more element, and the element at an index, of a list, a test, a sum and
 -- of a network's flows.
-use Prim.Native.Nat.{ℕ, zero, suc, _+_, _<_}
+use Prim.Native.Nat.{ℕ, zero, suc, _+_, _<_, _≤_}
 use mathlib.Core.Path.{_≡_, refl, sym, _∙_, ap, ap₂}
 use mathlib.Core.Bool.{Bool}
 use mathlib.Core.List.{List, [], _∷_, _++_, map}
@@ -9,12 +9,12 @@ use native.Mathlib.Numerals.{add-one}
 use native.Mathlib.Omega.{arith}
 use lib.Dec.{T}
 use lib.IntN.{ℤ, pos, _+ℤ_, +ℤ-idr}
-use lib.ListN.{length, getD, drop, take, length-append, length-map}
+use lib.ListN.{length, getD, drop, take, length-append, length-map, List·getD-eq-default}
 use lib.Seq.{getD-drop, take-suc}
 use Rattle.network.specs.Sums.{sum, sumℕ, all, upto}
 use Rattle.network.specs.Network.{Arc}
 use Rattle.network.specs.Flows.{Flow, flows}
-use Rattle.network.specs.laws.Tests.{and-left, and-right, and-both}
+use Rattle.network.specs.laws.Tests.{and-left, and-right, and-both, all-append}
 use Rattle.network.specs.laws.Sums.{sum-append, sumℕ-append}
 
 module _ {A : Type 0} where
@@ -106,3 +106,28 @@ at-ground d [] zero = refl
 at-ground d [] (suc v) = refl
 at-ground d (x ∷ p) zero = refl
 at-ground d (x ∷ p) (suc v) = at-ground d p v
+
+module _ {A : Type 0} (t : A → Bool) where
+  -- a test that each element by index passes
+  pub all-upto : (n : ℕ) (f : ℕ → A) → ((i : ℕ) → i < n → T (t (f i))) → T (all t (upto n f))
+  unfolding upto
+  all-upto zero f h = tt
+  all-upto (suc n) f h =
+      rw (all-append t (upto n f) (f n ∷ []))
+      (and-both (all t (upto n f)) (all t (f n ∷ [])) (all-upto n f (λ i l. h i (omega arith))) (and-both (t (f n)) (all t []) (h n (omega arith)) tt))
+
+  -- each element by index passes a test that all pass
+  pub upto-all : (n : ℕ) (f : ℕ → A) → T (all t (upto n f)) → (i : ℕ) → i < n → T (t (f i))
+  upto-all zero f a i l = absurd (omega arith)
+  upto-all (suc n) f a zero l = and-left (t (f 0)) (all t (upto n (λ i. f (suc i)))) (rw (upto-first n f) at a)
+  upto-all (suc n) f a (suc i) l = upto-all n (λ i. f (suc i)) (and-right (t (f 0)) (all t (upto n (λ i. f (suc i)))) (rw (upto-first n f) at a)) i (omega arith)
+
+-- an element by index
+pub upto-in : {A : Type 0} (d : A) (n : ℕ) (f : ℕ → A) (i : ℕ) → i < n → getD (upto n f) i d ≡ f i
+upto-in d zero f i l = absurd (omega arith)
+upto-in d (suc n) f zero l = rw (upto-first n f)
+upto-in d (suc n) f (suc i) l = rw (upto-first n f) (upto-in d n (λ i. f (suc i)) i (omega arith))
+
+-- behind the last element
+pub upto-past : {A : Type 0} (d : A) (n : ℕ) (f : ℕ → A) (i : ℕ) → n ≤ i → getD (upto n f) i d ≡ d
+upto-past d n f i l = List·getD-eq-default (upto n f) d (omega (arith, upto-length n f))

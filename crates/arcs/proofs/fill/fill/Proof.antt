@@ -1,0 +1,47 @@
+-- `arcs::fill::fill` meets its contract: the arcs of the edges and then those of the layers are the network's.
+use native.Mathlib.Omega.{arith}
+use borrow.Author.Needs.{needs}
+use Rattle.arcs.proofs.laws.Fill.{edges-good, edges-there, layers-good, nodes-few, layers-room, edges-end, fill-end}
+use Rattle.arcs.proofs.fill.fill.Statement.{statement}
+use Rattle.arcs.proofs.fill.fill.Tie as tie
+
+add-put-edges : tie.Need-add-put-edges
+add-put-edges c = search needs
+
+add-put-edges-2 : tie.Need-add-put-edges-2
+add-put-edges-2 c = search needs
+
+sub-put-edges : tie.Need-sub-put-edges
+sub-put-edges c = search needs
+
+part-put-edges-start : tie.Need-part-put-edges-start
+part-put-edges-start c = search needs
+
+part-put-edges-end : tie.Need-part-put-edges-end
+part-put-edges-end c = search needs
+
+put-edges-requires : tie.Need-put-edges-requires
+put-edges-requires c κs = (edges-good (c .before .before .before .before .before .before .pre .0) (c .before .before .before .before .before .before .pre .1 .0), (edges-there (c .before .before .before .before .before .before .pre .0) (c .before .before .before .before .before .before .pre .1 .0) .0, omega (arith, c .before .before .before .before .before .before .pre .1 .1)))
+
+put-layers-requires : tie.Need-put-layers-requires
+put-layers-requires c κs = (layers-good (c .before .before .before .before .before .before .before .before .before .before .pre .0) (c .before .before .before .before .before .before .before .before .before .before .pre .1 .0), ((c .before .before .before .before .before .before .before .before .before .before .pre .0 .head, nodes-few (c .before .before .before .before .before .before .before .before .before .before .pre .0) (c .before .before .before .before .before .before .before .before .before .before .pre .1 .0), c .before .before .before .before .before .before .before .before .before .before .pre .1 .1 .0), omega (arith, layers-room (c .before .before .before .before .before .before .before .before .before .before .pre .0) (c .before .before .before .before .before .before .before .before .before .before .pre .1 .0) (c .before .before .before .before .before .before .before .before .before .before .args .width), edges-end (c .before .before .before .before .before .before .before .before .before .before .pre .0) (c .before .before .before .before .before .before .before .before .before .before .pre .1 .0) (c .before .before .before .put-edges .ensures), c .before .before .before .put-edges .ensures .size, c .before .before .before .before .before .before .before .before .before .before .pre .1 .1)))
+
+same-length : tie.Need-same-length
+same-length c = search needs
+
+returns : tie.Need-returns
+returns c = fill-end (c .before .before .before .before .before .before .before .before .before .before .before .before .before .pre .0) (c .before .before .before .before .before .before .before .before .before .before .before .before .before .pre .1 .0) (c .before .before .before .before .before .before .before .before .before .before .before .before .before .args .width) (c .before .before .before .before .before .before .put-edges .ensures) (c .before .before .put-layers .ensures)
+
+pub fill-spec : {M : Type 1} → statement M
+fill-spec =
+    tie.close
+    (tie.spec
+    add-put-edges
+    add-put-edges-2
+    sub-put-edges
+    part-put-edges-start
+    part-put-edges-end
+    put-edges-requires
+    put-layers-requires
+    same-length
+    returns)

@@ -1,0 +1,11 @@
+pub mod Numbers
+pub mod LayersAt
+pub mod Filling
+pub mod Packing
+pub mod Pairs
+pub mod Layers
+pub mod Edges
+pub mod FirstNodes
+pub mod Fill
+pub mod Load
+pub mod Adding

@@ -1,0 +1,117 @@
+-- The arcs of the edges and then those of the layers are the network's, and how many they are, from what a plan says.
+use Prim.Native.Nat.{ℕ, zero, suc, _+_, _-_, _*_, _≤_}
+use mathlib.Core.Path.{_≡_, sym, _∙_, ap, ap₂}
+use mathlib.Core.List.{List, _++_, map, flatMap}
+use native.Mathlib.Omega.{arith}
+use lib.ListN.{length, getD, drop, take, length-append, length-drop, length-map}
+use lib.Seq.{getD-take, drop-drop}
+use Rattle.sheet.specs.Limits.{max-nodes, max-edges}
+use Rattle.sheet.specs.Layout.{first-layer-at, nodes-at, edges-at, edge-stride, next-layer}
+use Rattle.network.specs.Network.{Arc}
+use Rattle.network.specs.Packed.{stride, packs, packed}
+use Rattle.network.specs.laws.PackedBack.{packs-length}
+use Rattle.drawing.specs.Sheet.{edges-of, first-nodes, sheet-of, at-width}
+use Rattle.drawing.specs.Arcs.{edge-arc, layer-arcs, network}
+use Rattle.drawing.specs.laws.Good.{GoodLayers, GoodEdges, GoodRest, Good}
+use Rattle.drawing.specs.laws.Proper.{edges-length}
+use Rattle.drawing.specs.laws.ArcCount.{layers-count}
+use Rattle.arcs.specs.inside.Filling.{Adds}
+use Rattle.arcs.specs.inside.Pieces.{layers-arcs}
+use Rattle.arcs.specs.inside.Plans.{Planned, written}
+use Rattle.arcs.specs.declared.Plan.{Plan}
+use Rattle.arcs.proofs.laws.Filling.{filling-begin, filling-arcs, filling-end, added-front}
+
+-- the last first node is at most n
+last-few : (n k v : ℕ) (s : List ℕ) → GoodLayers n k v s → v ≤ n → getD (first-nodes k v s) k 0 ≤ n
+last-few n zero v s g h = h
+last-few n (suc k) v s g h = last-few n k (v + getD s nodes-at 0) (next-layer s) (g .1) (g .0 .room)
+
+module _ {s first : List ℕ} {p : Plan} (g : Good max-nodes s) (planned : Planned s first p) where
+  -- the first nodes that the edges are read with
+  abbrev firsts : List ℕ
+  firsts = take ((p .layers + 1) - 0) first
+
+  -- the arcs of the edges
+  abbrev edge-arcs : List Arc
+  edge-arcs = map edge-arc (edges-of firsts (p .edges) (drop (p .behind + edges-at) s))
+
+  -- what follows the layers is good
+  rest-good : GoodRest max-nodes (first-nodes (p .layers) 0 (drop first-layer-at s)) (drop (p .behind) s)
+  rest-good = rw (planned .rest, planned .layers) (g .rest)
+
+  -- the first nodes are the sheet's
+  firsts-are : firsts ≡ first-nodes (p .layers) 0 (drop first-layer-at s)
+  firsts-are = let k : (p .layers + 1) - 0 ≡ p .layers + 1 = omega arith in rw k (planned .firsts)
+
+  -- the edges are good
+  pub edges-good : GoodEdges max-nodes firsts (p .edges) (drop (p .behind + edges-at) s)
+  edges-good = rw (firsts-are, planned .edges, ← drop-drop edges-at (p .behind) s) (rest-good .edges)
+
+  -- they are there, and not too many
+  pub edges-there : (p .behind + edges-at + edge-stride * p .edges ≤ length s) × (p .edges ≤ max-edges)
+  edges-there =
+      (omega (arith, rest-good .there, length-drop (p .behind) s, planned .edges), omega (arith, rest-good .few, planned .edges))
+
+  -- the last of them is the count of nodes, which is the ground
+  ground-is : p .nodes ≡ getD (first-nodes (p .layers) 0 (drop first-layer-at s)) (p .layers) 0
+  ground-is = planned .nodes ∙ sym (getD-take (p .layers + 1) first (p .layers) 0 (omega arith)) ∙ ap (λ (l : List ℕ). getD l (p .layers) 0) (planned .firsts)
+
+  -- the layers are good
+  pub layers-good : GoodLayers max-nodes (p .layers) 0 (drop first-layer-at s)
+  layers-good = rw (planned .layers) (g .layers)
+
+  -- the nodes are not too many
+  pub nodes-few : p .nodes ≤ max-nodes
+  nodes-few = rw ground-is (last-few max-nodes (p .layers) 0 (drop first-layer-at s) layers-good (omega arith))
+
+  -- two arcs for each node
+  pub layers-room : (w : ℕ) → length (layers-arcs s (p .layers) w (p .nodes)) ≡ 2 * p .nodes
+  layers-room w = omega (arith, layers-count max-nodes w (p .nodes) (p .layers) 0 (drop first-layer-at s) layers-good, ground-is)
+
+  -- an arc for each edge
+  edges-count : length edge-arcs ≡ p .edges
+  edges-count = length-map (edges-of firsts (p .edges) (drop (p .behind + edges-at) s)) edge-arc ∙ edges-length firsts (p .edges) (drop (p .behind + edges-at) s)
+
+  -- the edges are the sheet's
+  edges-are : edges-of firsts (p .edges) (drop (p .behind + edges-at) s) ≡ sheet-of s .edges
+  unfolding sheet-of
+  edges-are = rw (firsts-are, planned .edges, ← drop-drop edges-at (p .behind) s, planned .rest, planned .layers)
+
+  -- the plan's count of edges
+  pub plan-edges : length (sheet-of s .edges) ≡ p .edges
+  plan-edges = ap length (sym edges-are) ∙ edges-length firsts (p .edges) (drop (p .behind + edges-at) s)
+
+  -- the plan's count of nodes
+  pub plan-nodes : sheet-of s .nodes ≡ p .nodes
+  unfolding sheet-of
+  plan-nodes = sym (ground-is ∙ rw (planned .layers))
+
+  -- the arcs of the layers are the network's
+  layers-are : (w : ℕ) → layers-arcs s (p .layers) w (p .nodes) ≡ flatMap (layer-arcs w (sheet-of s .nodes)) (sheet-of s .layers)
+  unfolding sheet-of
+  layers-are w = rw (ground-is, planned .layers)
+
+  -- the arcs of the network are those of the edges, then those of the layers
+  arcs-are : (w : ℕ) → network (at-width w (sheet-of s)) .arcs ≡ edge-arcs ++ layers-arcs s (p .layers) w (p .nodes)
+  unfolding network
+  arcs-are w = sym (ap₂ (λ (l r : List Arc). l ++ r) (ap (map edge-arc) edges-are) (layers-are w))
+
+  -- one arc for each edge, and two for each node
+  pub plan-arcs : (w : ℕ) → length (network (at-width w (sheet-of s)) .arcs) ≡ p .edges + 2 * p .nodes
+  plan-arcs w = ap length (arcs-are w) ∙ length-append edge-arcs (layers-arcs s (p .layers) w (p .nodes)) ∙ omega (arith, edges-count, layers-room w)
+
+  -- where the arcs of the edges end
+  pub edges-end : {a b : List ℕ} {n m : ℕ} → Adds a n (packs edge-arcs) b m → m ≡ n + stride * p .edges
+  edges-end x = omega (arith, x .count, packs-length edge-arcs, edges-count)
+
+  -- edges and layers make the network
+  pub fill-end : {a b c : List ℕ} {m k : ℕ} (w : ℕ) → Adds a 0 (packs edge-arcs) b m → Adds b m (packs (layers-arcs s (p .layers) w (p .nodes))) c k
+      → c ≡ written (network (at-width w (sheet-of s))) a
+  unfolding written packed packs
+  fill-end {a} {b} {c} {m} {k} w x y =
+      let es : List Arc = edge-arcs in
+      let ls : List Arc = layers-arcs s (p .layers) w (p .nodes) in
+      let all = filling-end (packs ls) (filling-arcs es ls (filling-begin a 0 (packs (es ++ ls))) x) y in
+      added-front all
+      ∙ ap (λ (n : ℕ). packs (es ++ ls) ++ drop n a) (packs-length (es ++ ls))
+      ∙ ap (λ (l : List Arc). packs l ++ drop (stride * length l) a) (sym (arcs-are w))

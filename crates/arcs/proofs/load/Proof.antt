@@ -1,0 +1,56 @@
+-- `arcs::load` meets its contract: a refusal is the reader's, and what was read is good.
+use native.Mathlib.Omega.{arith}
+use lib.ListN.{length}
+use borrow.Author.Needs.{needs}
+use Rattle.arcs.proofs.laws.Load.{done-room, done-good, done-answer, done-slice, refused-answer, refused-slice}
+use Rattle.arcs.proofs.load.Statement.{statement}
+use Rattle.arcs.proofs.load.Tie as tie
+
+slice-aggregate-read : tie.Need-slice-aggregate-read
+slice-aggregate-read c = search needs
+
+read-requires : tie.Need-read-requires
+read-requires c κs = search needs
+
+enum-known-answer : tie.Need-enum-known-answer
+enum-known-answer c = search needs
+
+enum-known-answer-2 : tie.Need-enum-known-answer-2
+enum-known-answer-2 c = search needs
+
+sub-load-numbers : tie.Need-sub-load-numbers
+sub-load-numbers c = search needs
+
+part-load-numbers-start : tie.Need-part-load-numbers-start
+part-load-numbers-start c = search needs
+
+part-load-numbers-end : tie.Need-part-load-numbers-end
+part-load-numbers-end c = let h = done-room (c .before .before .before .before .before .before .before .before .before .args .bytes .now) _ _ (c .before .before .before .before .before .read .ensures .0) (c .before .before .before .before .before .read .ensures .1) (c .before .before .answer2 .given .1) in omega arith
+
+load-numbers-requires : tie.Need-load-numbers-requires
+load-numbers-requires c κs = done-good (c .before .before .before .before .before .before .before .before .before .before .before .args .bytes .now) _ _ (c .before .before .before .before .before .before .before .read .ensures .0) (c .before .before .before .before .before .before .before .read .ensures .1) (c .before .before .before .before .answer2 .given .1)
+
+returns : tie.Need-returns
+returns c = (refused-answer (c .before .before .before .before .before .before .before .before .args .bytes .now) _ _ (c .before .before .before .before .read .ensures .0) (c .before .before .before .before .read .ensures .1) (omega arith) (c .before .answer .given .1) (length (c .before .before .before .before .before .before .before .before .args .arcs .now)), refused-slice (c .before .before .before .before .before .before .before .before .args .bytes .now) _ _ (c .before .before .before .before .read .ensures .0) (c .before .before .before .before .read .ensures .1) (omega arith) (c .before .answer .given .1) (c .before .before .before .before .before .before .before .before .args .arcs .now))
+
+same-length : tie.Need-same-length
+same-length c = search needs
+
+returns-2 : tie.Need-returns-2
+returns-2 c = (done-answer (c .before .before .before .before .before .before .before .before .before .before .before .before .before .before .args .bytes .now) _ _ (c .before .before .before .before .before .before .before .before .before .before .read .ensures .0) (c .before .before .before .before .before .before .before .before .before .before .read .ensures .1) (c .before .before .before .before .before .before .before .answer2 .given .1) _ (c .before .before .load-numbers .ensures .0), done-slice (c .before .before .before .before .before .before .before .before .before .before .before .before .before .before .args .bytes .now) _ _ (c .before .before .before .before .before .before .before .before .before .before .read .ensures .0) (c .before .before .before .before .before .before .before .before .before .before .read .ensures .1) (c .before .before .before .before .before .before .before .answer2 .given .1) (c .before .before .before .before .before .before .before .before .before .before .before .before .before .before .args .arcs .now) (c .before .before .load-numbers .ensures .1))
+
+pub load-spec : {M : Type 1} → statement M
+load-spec =
+    tie.close
+    (tie.spec
+    slice-aggregate-read
+    read-requires
+    enum-known-answer
+    enum-known-answer-2
+    sub-load-numbers
+    part-load-numbers-start
+    part-load-numbers-end
+    load-numbers-requires
+    returns
+    same-length
+    returns-2)

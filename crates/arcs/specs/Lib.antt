@@ -1,0 +1,6 @@
+pub mod Limits
+pub mod Words
+pub mod Loading
+pub mod Lengths
+pub mod inside
+pub mod laws

@@ -1,0 +1,4 @@
+pub mod Fitting
+pub mod Loaded
+pub mod Held
+pub mod SheetLengths

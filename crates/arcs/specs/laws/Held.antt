@@ -1,0 +1,112 @@
+-- A slice that holds the packed arcs of a good sheet: they mean the sheet's network, and those of the edges come first.
+use Prim.Native.Nat.{ℕ, _+_, _*_, _≤_, _<_}
+use mathlib.Core.Path.{_≡_, sym, _∙_, ap, ap₂}
+use mathlib.Core.List.{List, _++_, map, flatMap, append-assoc}
+use native.Mathlib.Omega.{arith}
+use lib.Dec.{T}
+use lib.ListN.{length, getD, take, drop, length-append, length-map}
+use lib.Seq.{take-at}
+use Rattle.leb128.specs.Format.{reading}
+use Rattle.leb128.specs.Format.Result.{elements}
+use Rattle.leb128.specs.laws.AcceptedNumbers.{Accepts}
+use Rattle.sheet.specs.Grammar.{sheet}
+use Rattle.sheet.specs.Layout.{node-count}
+use Rattle.sheet.specs.Limits.{magic, max-nodes}
+use Rattle.network.specs.Sums.{all}
+use Rattle.network.specs.Network.{Arc, Network}
+use Rattle.network.specs.Packed.{kink-at, stride, kink-zero, packs, packed, storable, arcs-to, network-of}
+use Rattle.network.specs.laws.PackedBack.{packs-append, packs-length, arcs-back, kinks-in}
+use Rattle.drawing.specs.Sheet.{Sheet, sheet-of}
+use Rattle.drawing.specs.Certificate.{certificate-size}
+use Rattle.drawing.specs.Arcs.{edge-arc, layer-arcs, network}
+use Rattle.drawing.specs.laws.GoodNumbers.{accepts-good}
+use Rattle.drawing.specs.laws.Proper.{Proper, accepts-proper}
+use Rattle.drawing.specs.laws.ArcCount.{arcs-count}
+use Rattle.drawing.specs.laws.Storable.{network-storable}
+use Rattle.arcs.specs.declared.Counts.{Counts}
+use Rattle.arcs.specs.Loading.{arcs-size}
+use Rattle.arcs.specs.laws.Loaded.{LoadedSheet}
+
+-- the packed arcs of a good sheet of these counts, whatever stands behind them
+pub record Holds (a : List ℕ) (c : Counts) : Type 0 where
+  pub numbers : List ℕ
+  pub good : Accepts sheet numbers
+  pub behind : List ℕ
+  pub packed-are : a ≡ packed (network (sheet-of numbers)) ++ behind
+  pub nodes-are : c .nodes ≡ sheet-of numbers .nodes
+  pub edges-are : c .edges ≡ length (sheet-of numbers .edges)
+  pub arcs-are : c .arcs ≡ length (network (sheet-of numbers) .arcs)
+
+-- so does a slice into which a sheet was loaded
+pub loaded-holds : {bytes old new : List ℕ} {c : Counts} → LoadedSheet bytes old new c → Holds new c
+unfolding packed
+loaded-holds {bytes} {old} l = record {
+  numbers = l .numbers;
+  good = l .good;
+  behind = drop (arcs-size (sheet-of (l .numbers))) old;
+  packed-are = l .slice;
+  nodes-are = l .nodes;
+  edges-are = l .edges;
+  arcs-are = l .arcs;
+}
+
+-- the numbers are those that reading gives
+pub holds-reads : {bytes old new : List ℕ} {c : Counts} (l : LoadedSheet bytes old new c) → reading magic sheet bytes ≡ elements (loaded-holds l .numbers)
+unfolding loaded-holds
+holds-reads l = l .reads
+
+module _ {a : List ℕ} {c : Counts} (h : Holds a c) where
+  abbrev S : Sheet
+  S = sheet-of (h .numbers)
+
+  abbrev xs : List Arc
+  xs = network S .arcs
+
+  -- the sheet is within its limits
+  pub proper : Proper S
+  proper = accepts-proper (h .numbers) (h .good)
+
+  -- an arc for each number of the certificate
+  pub size-is : c .arcs ≡ certificate-size S
+  size-is = h .arcs-are ∙ arcs-count (node-count (h .numbers)) (h .numbers) (accepts-good (node-count (h .numbers)) (omega arith) (h .good))
+
+  -- few nodes
+  pub nodes-few : c .nodes ≤ max-nodes
+  nodes-few = omega (arith, h .nodes-are, proper .nodes)
+
+  -- the arcs, and what stands behind them
+  front : a ≡ packs xs ++ h .behind
+  unfolding packed
+  front = h .packed-are
+
+  -- the arcs are there
+  pub arcs-there : stride * c .arcs ≤ length a
+  arcs-there = omega (arith, ap length front ∙ length-append (packs xs) (h .behind), packs-length xs, h .arcs-are)
+
+  -- those of the edges too
+  pub edges-there : stride * c .edges ≤ length a
+  edges-there = omega (arith, arcs-there, h .edges-are, size-is)
+
+  -- each can be read back
+  stored : T (all storable xs)
+  stored = network-storable S proper
+
+  -- every kink is a small number
+  pub kinks-small : (i : ℕ) → i < c .arcs → getD a (stride * i + kink-at) 0 < 2 * kink-zero
+  kinks-small i l = rw front (kinks-in xs (h .behind) stored i (omega (arith, h .arcs-are)))
+
+  -- they mean the sheet's network
+  pub network-is : network-of a (c .nodes) (c .arcs) ≡ network S
+  unfolding network
+  network-is =
+      ap₂ (λ (m : ℕ) (l : List Arc). record { nodes = m; arcs = l }) (h .nodes-are)
+      (ap₂ arcs-to front (h .arcs-are) ∙ arcs-back xs (h .behind) stored)
+
+  -- the edges' come first
+  pub edges-front : take (stride * c .edges) a ≡ packs (map edge-arc (S .edges))
+  unfolding network
+  edges-front =
+      let es : List Arc = map edge-arc (S .edges) in
+      let ls : List Arc = flatMap (layer-arcs (S .width) (S .nodes)) (S .layers) in
+      ap (take (stride * c .edges)) (front ∙ ap (λ (l : List ℕ). l ++ h .behind) (packs-append es ls) ∙ append-assoc (packs es) (packs ls) (h .behind))
+      ∙ take-at (packs es) (packs ls ++ h .behind) (stride * c .edges) (omega (arith, packs-length es, length-map (S .edges) edge-arc, h .edges-are))

@@ -1,0 +1,106 @@
+-- What a caller of `load` knows: a good sheet whose packed arcs stand in front of the slice, or a refusal; and that a slice of
+-- 5,120 elements is long enough for every sheet. By the cases of what reading gives and of the room.
+use Prim.Native.Nat.{ℕ, _≤_, _<_}
+use mathlib.Core.Path.{_≡_, refl, sym, _∙_, ap}
+use mathlib.Core.Logic.{⊎-elim}
+use mathlib.Core.List.{List, _++_}
+use native.Mathlib.Omega.{arith}
+use lib.ListN.{length, drop}
+use Rattle.leb128.specs.Format.{Result, reading}
+use Rattle.leb128.specs.Format.Result.{elements}
+use Rattle.leb128.specs.laws.Cases.{lt-or-le}
+use Rattle.leb128.specs.laws.AcceptedNumbers.{Accepts}
+use Rattle.leb128.specs.declared.Refusal.{Refusal}
+use Rattle.sheet.specs.Limits.{magic, max-nodes}
+use Rattle.sheet.specs.Grammar.{sheet}
+use Rattle.sheet.specs.laws.Sheets.{read-accepted, good-layout}
+use Rattle.network.specs.Packed.{packs}
+use Rattle.drawing.specs.Sheet.{sheet-of}
+use Rattle.drawing.specs.Arcs.{network}
+use Rattle.drawing.specs.laws.GoodNumbers.{accepts-good}
+use Rattle.drawing.specs.laws.Proper.{Proper, accepts-proper}
+use Rattle.drawing.specs.laws.ArcCount.{arcs-count}
+use Rattle.arcs.specs.Limits.{max-elements}
+use Rattle.arcs.specs.Loading.{Loading, loading, arcs-size, load-answer, load-slice}
+use Rattle.arcs.specs.laws.Fitting.{counts-of, short-answer, short-slice, long-answer, long-slice}
+use Rattle.arcs.specs.declared.Counts.{Counts}
+use Rattle.arcs.specs.declared.Loaded.{Loaded}
+use Rattle.arcs.specs.declared.Loaded.the-variants.{Sheet, Refused}
+
+-- a sheet that was loaded from bytes into a slice: its numbers, which are good, its counts, and the slice afterwards
+pub record LoadedSheet (bytes old new : List ℕ) (c : Counts) : Type 0 where
+  pub numbers : List ℕ
+  pub reads : reading magic sheet bytes ≡ elements numbers
+  pub good : Accepts sheet numbers
+  pub nodes : c .nodes ≡ sheet-of numbers .nodes
+  pub edges : c .edges ≡ length (sheet-of numbers .edges)
+  pub arcs : c .arcs ≡ length (network (sheet-of numbers) .arcs)
+  pub width : c .width ≡ sheet-of numbers .width
+  pub room : arcs-size (sheet-of numbers) ≤ length old
+  pub slice : new ≡ packs (network (sheet-of numbers) .arcs) ++ drop (arcs-size (sheet-of numbers)) old
+
+-- a refusal is no sheet
+refused-not : {r : Refusal} {nodes edges arcs width : ℕ} → Loading.refused r ≡ Loading.loaded nodes edges arcs width → ⊥
+refused-not e = let z : _≡_ {A = ℕ} 0 1 = cc in omega arith
+
+-- what an answer with a sheet stands for
+sheet-answer : {answer : Loaded} {c : Counts} {l : Loading} → answer ≡ Sheet c → loading answer ≡ l → Loading.loaded (c .nodes) (c .edges) (c .arcs) (c .width) ≡ l
+unfolding loading
+sheet-answer is e = sym (ap loading is) ∙ e
+
+-- what a refusal stands for
+refused-answer : {answer : Loaded} {r : Refusal} {l : Loading} → answer ≡ Refused r → loading answer ≡ l → Loading.refused r ≡ l
+unfolding loading
+refused-answer is e = sym (ap loading is) ∙ e
+
+-- an answer with a sheet
+pub loaded-sheet : (bytes old : List ℕ) {new : List ℕ} {answer : Loaded} {c : Counts} → answer ≡ Sheet c → loading answer ≡ load-answer (length old) (reading magic sheet bytes)
+    → new ≡ load-slice (reading magic sheet bytes) old → LoadedSheet bytes old new c
+unfolding load-answer
+loaded-sheet bytes old {new} {answer} {c} is e f = go (reading magic sheet bytes) refl (sheet-answer is e) f
+  where
+    go : (result : Result) → reading magic sheet bytes ≡ result → Loading.loaded (c .nodes) (c .edges) (c .arcs) (c .width) ≡ load-answer (length old) result → new ≡ load-slice result old → LoadedSheet bytes old new c
+    go (elements numbers) i e f =
+        ⊎-elim
+        (λ (h : length old < arcs-size (sheet-of numbers)). absurd (refused-not (sym (short-answer numbers (length old) h) ∙ sym e)))
+        (λ (h : arcs-size (sheet-of numbers) ≤ length old).
+        let k : Loading.loaded (c .nodes) (c .edges) (c .arcs) (c .width) ≡ counts-of (sheet-of numbers) = e ∙ long-answer numbers (length old) h in
+        record {
+          numbers = numbers;
+          reads = i;
+          good = read-accepted bytes numbers i;
+          nodes = cc;
+          edges = cc;
+          arcs = cc;
+          width = cc;
+          room = h;
+          slice = f ∙ long-slice numbers old h;
+        })
+        (lt-or-le (length old) (arcs-size (sheet-of numbers)))
+    go (Result.refused r) i e f = absurd (refused-not (sym e))
+
+-- a slice of 5,120 elements is long enough
+pub most-elements : (numbers : List ℕ) → Accepts sheet numbers → arcs-size (sheet-of numbers) ≤ max-elements
+most-elements numbers a =
+    let proper : Proper (sheet-of numbers) = accepts-proper numbers a in
+    omega (arith, proper .nodes, proper .few, arcs-count max-nodes numbers (accepts-good max-nodes (good-layout numbers a .nodes) a))
+
+-- where the slice is long enough for every sheet, a refusal is the reader's
+pub reader-refused : (bytes : List ℕ) (room : ℕ) {answer : Loaded} {r : Refusal} → max-elements ≤ room → answer ≡ Refused r → loading answer ≡ load-answer room (reading magic sheet bytes)
+    → reading magic sheet bytes ≡ Result.refused r
+unfolding load-answer
+reader-refused bytes room {answer} {r} h is e = go (reading magic sheet bytes) refl (refused-answer is e)
+  where
+    go : (result : Result) → reading magic sheet bytes ≡ result → Loading.refused r ≡ load-answer room result → result ≡ Result.refused r
+    go (elements numbers) i e = absurd (refused-not (e ∙ long-answer numbers room (omega (arith, most-elements numbers (read-accepted bytes numbers i)))))
+    go (Result.refused s) i e = let are : s ≡ r = cc in ap Result.refused are
+
+-- a refusal leaves the slice as it was
+pub refused-kept : (result : Result) (old : List ℕ) {answer : Loaded} {r : Refusal} → answer ≡ Refused r → loading answer ≡ load-answer (length old) result → load-slice result old ≡ old
+unfolding load-slice
+refused-kept (elements numbers) old is e =
+    ⊎-elim
+    (λ (h : length old < arcs-size (sheet-of numbers)). short-slice numbers old h)
+    (λ (h : arcs-size (sheet-of numbers) ≤ length old). absurd (refused-not (refused-answer is e ∙ long-answer numbers (length old) h)))
+    (lt-or-le (length old) (arcs-size (sheet-of numbers)))
+refused-kept (Result.refused s) old is e = refl

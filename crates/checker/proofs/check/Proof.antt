@@ -1,0 +1,48 @@
+-- `checker::check` meets its contract: a refusal is the reader's, and the loaded arcs answer for the bytes.
+use mathlib.Core.Path.{_∙_}
+use native.Mathlib.Omega.{arith}
+use borrow.Author.Needs.{needs}
+use Rattle.arcs.specs.laws.Loaded.{loaded-sheet, reader-refused}
+use Rattle.arcs.specs.laws.Held.{loaded-holds}
+use Rattle.checker.proofs.laws.Answers.{loaded-answer, refused-answer}
+use Rattle.checker.proofs.check.Statement.{statement}
+use Rattle.checker.proofs.check.Tie as tie
+
+slice-aggregate-load : tie.Need-slice-aggregate-load
+slice-aggregate-load c = search needs
+
+load-requires : tie.Need-load-requires
+load-requires c κs = search needs
+
+enum-known-r : tie.Need-enum-known-r
+enum-known-r c = search needs
+
+enum-known-counts : tie.Need-enum-known-counts
+enum-known-counts c = search needs
+
+slice-aggregate-check-loaded : tie.Need-slice-aggregate-check-loaded
+slice-aggregate-check-loaded c = search needs
+
+check-loaded-requires : tie.Need-check-loaded-requires
+check-loaded-requires c κs = loaded-holds (loaded-sheet (c .before .before .before .before .before .before .before .before .before .args .bytes .now) _ (c .before .before .counts .given .1) (c .before .before .before .before .before .load .ensures .0) (c .before .before .before .before .before .load .ensures .1))
+
+returns : tie.Need-returns
+returns c = refused-answer (c .before .before .before .before .before .before .before .before .args .bytes .now) (reader-refused (c .before .before .before .before .before .before .before .before .args .bytes .now) _ (omega arith) (c .before .r .given .1) (c .before .before .before .before .load .ensures .0)) (c .before .before .before .before .before .before .before .before .args .places .now) (c .before .before .before .before .before .before .before .before .args .list .now)
+
+returns-2 : tie.Need-returns-2
+returns-2 c =
+    let l = loaded-sheet (c .before .before .before .before .before .before .before .before .before .before .args .bytes .now) _ (c .before .before .before .counts .given .1) (c .before .before .before .before .before .before .load .ensures .0) (c .before .before .before .before .before .before .load .ensures .1) in
+    c .check-loaded .ensures ∙ loaded-answer l (c .before .before .before .before .before .before .before .before .before .before .args .places .now) (c .before .before .before .before .before .before .before .before .before .before .args .list .now)
+
+pub check-spec : {M : Type 1} → statement M
+check-spec =
+    tie.close
+    (tie.spec
+    slice-aggregate-load
+    load-requires
+    enum-known-r
+    enum-known-counts
+    slice-aggregate-check-loaded
+    check-loaded-requires
+    returns
+    returns-2)

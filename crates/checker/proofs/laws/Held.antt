@@ -1,0 +1,15 @@
+-- A slice that holds the packed arcs of a sheet is a table that the loops can read.
+use Prim.Native.Nat.{ℕ, _+_, _*_, _≤_, _<_}
+use mathlib.Core.List.{List}
+use native.Mathlib.Omega.{arith}
+use Rattle.drawing.specs.laws.Proper.{Proper}
+use Rattle.arcs.specs.declared.Counts.{Counts}
+use Rattle.arcs.specs.laws.Held.{Holds, proper, size-is, arcs-there, kinks-small}
+use Rattle.checker.specs.inside.Table.{Table}
+
+-- each arc is there, with a small kink
+pub table : {a : List ℕ} {c : Counts} → Holds a c → Table a (c .arcs)
+table h = record {
+  few = omega (arith, size-is h, proper h .few, proper h .nodes);
+  arcs = λ i l. record { there = omega (arith, arcs-there h); kink = kinks-small h i l };
+}

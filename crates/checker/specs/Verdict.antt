@@ -1,0 +1,50 @@
+-- The checker's answer: document 01, "The pull list", for places and a list that may be longer than is needed.
+use Prim.Native.Nat.{ℕ}
+use mathlib.Core.Bool.{Bool, true, false, cond}
+use mathlib.Core.List.{List}
+use lib.Dec.{ltb}
+use lib.IntN.{ℤ}
+use lib.ListN.{length, take}
+use Rattle.leb128.specs.Refusals.{slice-short}
+use Rattle.leb128.specs.Source.{refusal}
+use Rattle.leb128.specs.Format.{Result}
+use Rattle.leb128.specs.Format.Result.{elements}
+use Rattle.leb128.specs.declared.Refusal.{Refusal}
+use Rattle.drawing.specs.Sheet.{sheet-of}
+use Rattle.drawing.specs.Certificate.{certificate-size}
+use Rattle.drawing.specs.Judged.{judged}
+use Rattle.checker.specs.declared.Verdict.{Verdict}
+use Rattle.checker.specs.declared.Verdict.the-variants.{Yes, No, Refused}
+
+-- yes, no, or the refusal
+pub data Judgement : Type 0 where
+  accepted : Judgement
+  rejected : Judgement
+  refused : Refusal → Judgement
+
+-- what each case of the code's answer stands for
+unfoldable pub judgement : Verdict → Judgement
+judgement Yes = Judgement.accepted
+judgement No = Judgement.rejected
+judgement (Refused r) = Judgement.refused r
+
+-- the answer that a decision gives
+unfoldable pub said : Bool → Judgement
+said true = Judgement.accepted
+said false = Judgement.rejected
+
+-- refusal 7 where there are fewer places than nodes or fewer list elements than the certificate has, else the decision on
+-- so many of each: excess elements are not looked at
+unfoldable pub decided : ℕ → ℕ → (List ℕ → List ℤ → Bool) → List ℕ → List ℤ → Judgement
+decided nodes size decision places list =
+    cond (ltb (length places) nodes) (Judgement.refused (refusal slice-short 0))
+    (cond (ltb (length list) size) (Judgement.refused (refusal slice-short 0)) (said (decision (take nodes places) (take size list))))
+
+-- the answer on a sheet's numbers
+unfoldable pub judge-numbers : List ℕ → List ℕ → List ℤ → Judgement
+judge-numbers numbers = decided (sheet-of numbers .nodes) (certificate-size (sheet-of numbers)) (judged (sheet-of numbers))
+
+-- the answer, by what reading gives: its refusals come first
+unfoldable pub check-answer : Result → List ℕ → List ℤ → Judgement
+check-answer (elements numbers) places list = judge-numbers numbers places list
+check-answer (Result.refused r) places list = Judgement.refused r

@@ -1,0 +1,48 @@
+// The decision on packed arcs, places and a list.
+use crate::arc::wide;
+use crate::rules::all_allowed;
+use crate::rules::all_balanced;
+use crate::rules::all_legal;
+use crate::rules::bound;
+use crate::signed::same;
+use crate::signed::signed;
+use arcs::Counts;
+use arcs::total;
+use network::layout::STRIDE;
+ghost use mathlib.Core.Path.{_≡_};
+ghost use Prim.Native.Nat.{_≤_};
+ghost use lib.ListN.{length, take};
+ghost use Rattle.arcs.specs.laws.Held.{Holds};
+ghost use Rattle.checker.specs.inside.Table.{«table-decision»};
+
+// Places that are a drawing, a list that meets the rules, and the bound equal to the total.
+fn judge_whole(arcs: &[u32], places: &[u16], list: &[i32], counts: Counts) -> bool
+    requires { ⌜ Holds (now arcs) counts ⌝ }
+    requires { ⌜ (counts .arcs ≤ length (now list)) × (length (now places) ≡ counts .nodes) ⌝ }
+    ensures { λ r. ⌜ r ≡ table-decision (now (arcs .entry)) counts (now (places .entry)) (now (list .entry)) ⌝ }
+{
+    let n = counts.arcs;
+    if !all_legal(arcs, places, n) {
+        return false;
+    }
+    if !all_allowed(arcs, list, n) {
+        return false;
+    }
+    if !all_balanced(arcs, list, counts.nodes, n) {
+        return false;
+    }
+    let end = STRIDE * counts.edges;
+    let sum = wide(total(&arcs[0..end], places));
+    same(signed(sum), bound(arcs, list, n))
+}
+
+// The same for longer slices, whose excess is not looked at.
+pub fn judge(arcs: &[u32], places: &[u16], list: &[i32], counts: Counts) -> bool
+    requires { ⌜ Holds (now arcs) counts ⌝ }
+    requires { ⌜ (counts .arcs ≤ length (now list)) × (counts .nodes ≤ length (now places)) ⌝ }
+    ensures { λ r. ⌜ r ≡ table-decision (now (arcs .entry)) counts (take (counts .nodes) (now (places .entry))) (take (counts .arcs) (now (list .entry))) ⌝ }
+{
+    let nodes = counts.nodes;
+    let n = counts.arcs;
+    judge_whole(arcs, &places[0..nodes], &list[0..n], counts)
+}

@@ -1,0 +1,67 @@
+// The checker of certificates (document 01's pull lists).
+mod arc;
+mod judge;
+mod rules;
+mod signed;
+
+use crate::judge::judge;
+use arcs::Counts;
+use arcs::Loaded;
+use arcs::limits::MAX_ELEMENTS;
+use leb128::Refusal;
+use leb128::refusals::SLICE_SHORT;
+ghost use mathlib.Core.Path.{_≡_};
+ghost use Rattle.leb128.specs.Format.{reading};
+ghost use Rattle.leb128.specs.Source.{refusal};
+ghost use Rattle.leb128.specs.Refusals.{«slice-short»};
+ghost use Rattle.sheet.specs.Limits.{magic};
+ghost use Rattle.sheet.specs.Grammar.{sheet};
+ghost use Rattle.checker.specs.Verdict.{judgement, decided, «check-answer»};
+ghost use Rattle.arcs.specs.laws.Held.{Holds};
+ghost use Rattle.checker.specs.inside.Table.{«table-decision»};
+
+// Yes, no, or the refusal.
+pub enum Verdict {
+    Yes,
+    No,
+    Refused(Refusal),
+}
+
+// Whether places are a drawing of a sheet and the list is a certificate that no drawing has a smaller total; excess elements
+// are not looked at.
+pub fn check(bytes: &[u8], places: &[u16], list: &[i32]) -> Verdict
+    ensures { λ r. ⌜ judgement r ≡ check-answer (reading magic sheet (now (bytes .entry))) (now (places .entry)) (now (list .entry)) ⌝ }
+{
+    let mut arcs = [0u32; MAX_ELEMENTS];
+    match arcs::load(bytes, &mut arcs) {
+        Loaded::Refused(r) => Verdict::Refused(r),
+        Loaded::Sheet(counts) => check_loaded(&arcs, places, list, counts),
+    }
+}
+
+// The refusal of a slice that is too short.
+fn short() -> Verdict
+    ensures { λ r. ⌜ r ≡ Verdict.Refused (refusal slice-short 0) ⌝ }
+{
+    Verdict::Refused(Refusal {
+        number: SLICE_SHORT,
+        offset: 0,
+    })
+}
+
+// The answer on the packed arcs of a sheet.
+fn check_loaded(arcs: &[u32], places: &[u16], list: &[i32], counts: Counts) -> Verdict
+    requires { ⌜ Holds (now arcs) counts ⌝ }
+    ensures { λ r. ⌜ judgement r ≡ decided (counts .nodes) (counts .arcs) (table-decision (now (arcs .entry)) counts) (now (places .entry)) (now (list .entry)) ⌝ }
+{
+    if places.len() < counts.nodes {
+        return short();
+    }
+    if list.len() < counts.arcs {
+        return short();
+    }
+    if judge(arcs, places, list, counts) {
+        return Verdict::Yes;
+    }
+    Verdict::No
+}

@@ -1,0 +1,302 @@
+//! Pull lists with numbers at the ends of 32 bits.
+
+use super::{document::zeros, lists::samples, Case, Group};
+use crate::document;
+use crate::draft::Draft;
+use crate::random::Random;
+use crate::sheet::{PLAIN, STRAIGHT, WIDTH_LIMIT};
+
+/// The least number.
+const MIN: i32 = i32::MIN;
+/// The greatest number.
+const MAX: i32 = i32::MAX;
+
+/// One such number, or two, at each index.
+pub fn alone() -> Group {
+    let mut group = Group::new("numbers at the ends of 32 bits");
+    for (name, case) in samples() {
+        // These two have no kind of number that the others lack; the file stays small.
+        if ["stair", "one over three"].contains(&name) {
+            continue;
+        }
+        group.note(&format!("{name}, one number at either end: no"));
+        for i in 0..case.list.len() {
+            for end in [MAX, MIN] {
+                let mut case = case.clone();
+                case.list[i] = end;
+                group.check(&case);
+            }
+        }
+    }
+    let case = Case::drawn(&document::first());
+    group.note("first sheet, two neighbours at the ends: no");
+    for i in 1..case.list.len() {
+        for pair in [[MAX, MIN], [MIN, MAX], [MIN, MIN], [MAX, MAX]] {
+            let mut case = case.clone();
+            case.list[i - 1..=i].copy_from_slice(&pair);
+            group.check(&case);
+        }
+    }
+    let mut random = Random::new(21);
+    for (name, case) in samples() {
+        group.note(&format!("{name}, all numbers random or at the ends: no"));
+        let any = case.list.iter().map(|_| random.signed()).collect();
+        let ends = case.list.iter().map(|_| match random.within(0..=1) {
+            0 => MIN,
+            _ => MAX,
+        });
+        let ends = ends.collect();
+        group.check_lists(&case, vec![any, ends, vec![MAX; case.list.len()]]);
+    }
+    group
+}
+
+/// Two nodes, one above the other, with this many straight edges between them.
+fn straight_edges(count: usize) -> Draft {
+    let mut draft = Draft::new(3, &[1, 1]);
+    for _ in 0..count {
+        draft = draft.edge(1, 1, 1, STRAIGHT);
+    }
+    draft
+}
+
+/// Adds straight edges between two nodes with these pulls.
+fn pulled(group: &mut Group, pulls: &[i32]) {
+    let list = [pulls, &[0; 4]].concat();
+    group.check_tight(&Case::new(&straight_edges(pulls.len()), &[1, 1], &list));
+}
+
+/// Pulls of straight edges.
+pub fn pulls() -> Group {
+    let mut group = Group::new("pulls of straight edges at the ends of 32 bits");
+    group.note("pulls that cancel: yes");
+    let cancelling: [&[i32]; 9] = [
+        &[MAX, -MAX],
+        &[-MAX, MAX],
+        &[MAX, MIN, 1],
+        &[MIN, 1, MAX],
+        &[1, MAX, MIN],
+        &[MAX, MAX, -MAX, -MAX],
+        &[MIN, MIN, MAX, MAX, 2],
+        &[MAX, MAX, 2, MIN, MIN],
+        &[MAX, MAX, MAX, -MAX, -MAX, -MAX],
+    ];
+    for pulls in cancelling {
+        pulled(&mut group, pulls);
+    }
+    group.note("pulls that cancel in 32 bits only, or not at all: no");
+    let others: [&[i32]; 9] = [
+        &[MIN, MIN],
+        &[MAX, MAX, 2],
+        &[MIN; 4],
+        &[MAX, MIN],
+        &[MIN, MAX],
+        &[MAX, MAX],
+        &[MAX, MIN, -1],
+        &[MIN, MIN, MAX, MAX],
+        &[MIN, MIN, MIN, MAX, MAX, 2, MIN],
+    ];
+    for pulls in others {
+        pulled(&mut group, pulls);
+    }
+    many_pulls(&mut group);
+    pushes_against(&mut group);
+    group
+}
+
+/// Adds many pulls, the sums of which pass 32 bits by far.
+fn many_pulls(group: &mut Group) {
+    group.note("32 pulls that cancel: yes");
+    pulled(group, &[MAX, -MAX].repeat(16));
+    pulled(group, &[[MAX; 16], [-MAX; 16]].concat());
+    pulled(group, &[[-MAX; 16], [MAX; 16]].concat());
+    group.note("32 pulls that cancel in 32 bits only, or not at all: no");
+    pulled(group, &[MIN; 32]);
+    pulled(group, &[MAX; 32]);
+    pulled(group, &[[MAX; 16], [MIN; 16]].concat());
+    group.note("pulls through three layers: yes");
+    let mut chain = Draft::new(3, &[1, 1, 1]);
+    for layer in [1, 1, 1, 1, 2, 2, 2, 2] {
+        chain = chain.edge(layer, 1, 1, STRAIGHT);
+    }
+    let half = [MAX, MAX, -MAX, -MAX];
+    let list = [&half[..], &half, &[0; 6]].concat();
+    group.check_tight(&Case::new(&chain, &[2, 2, 2], &list));
+    group.note("balanced at the middle layer only: no");
+    let list = [&[MAX; 8][..], &[0; 6]].concat();
+    group.check_tight(&Case::new(&chain, &[2, 2, 2], &list));
+    group.note("plain edges that cancel, out of limits: no");
+    let plain = Draft::new(3, &[1, 1])
+        .edge(1, 1, 1, PLAIN)
+        .edge(1, 1, 1, PLAIN);
+    for pulls in [[MAX, -MAX], [-MAX, MAX], [MIN, MIN]] {
+        let list = [&pulls[..], &[0; 4]].concat();
+        group.check_tight(&Case::new(&plain, &[1, 1], &list));
+    }
+}
+
+/// Adds straight edges whose pulls are balanced by pushes of boundaries.
+fn pushes_against(group: &mut Group) {
+    let chain = |width| {
+        Draft::new(width, &[1, 1, 1])
+            .edge(1, 1, 1, STRAIGHT)
+            .edge(2, 1, 1, STRAIGHT)
+    };
+    let down = [MAX, MAX, 0, MAX, 0, 0, MAX, 0];
+    let up = [-MAX, -MAX, MAX, 0, 0, 0, 0, MAX];
+    group.note("boundaries push against the pulls, width 0: yes");
+    group.check_tight(&Case::new(&chain(0), &[0; 3], &down));
+    group.check_tight(&Case::new(&chain(0), &[0; 3], &up));
+    group.note("the same, width 1 and 4,095: no");
+    for width in [1, WIDTH_LIMIT] {
+        group.check(&Case::new(&chain(width), &[0; 3], &down));
+        group.check(&Case::new(&chain(width), &[0; 3], &up));
+        group.check(&Case::new(&chain(width), &[width; 3], &down));
+    }
+    group.note("no push is as large as the least pull: no");
+    for push in [MAX, MIN, 0] {
+        let list = [MIN, MIN, push, 0, 0, 0, 0, push];
+        group.check_tight(&Case::new(&chain(0), &[0; 3], &list));
+    }
+}
+
+/// Pushes, and floors that pass 32 bits.
+pub fn pushes() -> Group {
+    let mut group = Group::new("pushes at the ends of 32 bits");
+    for distance in [1, WIDTH_LIMIT] {
+        rigid_pair(&mut group, distance);
+    }
+    loose_pair(&mut group);
+    wrapped_floors(&mut group);
+    wrapped_balance(&mut group);
+    long_floors(&mut group);
+    group
+}
+
+/// Adds pushes on two nodes that can only stand at 0 and at the width.
+fn rigid_pair(group: &mut Group, width: u16) {
+    let draft = Draft::new(width, &[2]).separation(1, 1, width, width);
+    let mut add = |answer: &str, lists: &[[i32; 4]]| {
+        group.note(&format!("a rigid pair, width {width}: {answer}"));
+        for list in lists {
+            group.check_tight(&Case::new(&draft, &[0, width], list));
+        }
+    };
+    let good = [
+        [MAX, MAX, 0, MAX],
+        [0, MAX, MAX, 0],
+        [1, MAX, MAX - 1, 1],
+        [MAX - 1, MAX, 1, MAX - 1],
+    ];
+    let bad = [
+        [MAX, 0, -MAX, MAX],
+        [0, MIN, MIN, 0],
+        [MIN, MIN, 0, MIN],
+        [MAX, MAX, MAX, 0],
+        [0, MAX, 0, MAX],
+        [MAX, 0, 0, 0],
+        [MIN, 0, 0, 0],
+    ];
+    add("yes", &good);
+    add("no", &bad);
+}
+
+/// Adds pushes on two nodes that can stand one step closer.
+fn loose_pair(group: &mut Group) {
+    group.note("a pair with a minimum one below its maximum: no");
+    for width in [2, WIDTH_LIMIT] {
+        let draft = Draft::new(width, &[2]).separation(1, 1, width - 1, width);
+        for list in [[MAX, MAX, 0, MAX], [0, MAX, MAX, 0], [1, MAX, MAX - 1, 1]] {
+            group.check(&Case::new(&draft, &[0, width - 1], &list));
+            group.check(&Case::new(&draft, &[0, width], &list));
+        }
+    }
+}
+
+/// Adds lists whose floor equals the total in 32 bits only.
+fn wrapped_floors(group: &mut Group) {
+    const PART: i32 = 1 << 30;
+    group.note("the floor equals the total in 32 bits only: no");
+    let loose = Draft::new(5, &[2]).separation(1, 1, 1, 5);
+    for list in [[0, PART, PART, 0], [PART, PART, 0, PART]] {
+        group.check(&Case::new(&loose, &[0, 1], &list));
+    }
+    let first = document::first().separation(1, 1, 1, 5);
+    for list in [
+        [1, -1, 0, 1 + PART, PART, 0, 0, 0],
+        [1, -1, PART, 1 + PART, 0, PART, 0, 0],
+    ] {
+        group.check(&Case::new(&first, &[0, 1, 0], &list));
+    }
+    let one = Draft::new(4, &[1]);
+    group.check(&Case::new(&one, &[0], &[PART, PART]));
+    group.note("the floor equals the total in 40 bits only: no");
+    let wide = Draft::new(1024, &[1]);
+    group.check(&Case::new(&wide, &[0], &[PART, PART]));
+}
+
+/// Adds lists whose balance holds in 32 bits only; their floor equals the total.
+fn wrapped_balance(group: &mut Group) {
+    let draft = Draft::new(2, &[1, 3, 1])
+        .separation(2, 2, 1, 1)
+        .edge(1, 1, 3, STRAIGHT)
+        .edge(2, 2, 1, PLAIN)
+        .edge(2, 2, 1, PLAIN);
+    let pulls = [-MAX, 1, 1];
+    let layers = [MAX, 0, MAX, MAX, 0, 0, MAX, 0, 2, 0];
+    group.note("the balance holds in 32 bits only: no");
+    let list = [&pulls[..], &layers].concat();
+    group.check_tight(&Case::new(&draft, &[2, 0, 1, 2, 1], &list));
+    let straight = Draft {
+        width: 0,
+        ..straight_edges(2)
+    };
+    for list in [
+        [MAX, 1, MIN, 0, MIN, 0],
+        [MAX, 1, 0, MIN, MIN, 0],
+        [MIN, 0, MIN, 0, 0, MIN],
+        [MIN, MIN, 0, 0, 0, 0],
+        [MIN, MIN, MAX, MAX, MAX, MAX],
+    ] {
+        group.check_tight(&Case::new(&straight, &[0, 0], &list));
+    }
+    group.note("the same edges, balanced: yes");
+    for list in [
+        [-MAX, 0, MAX, 0, 0, MAX],
+        [MIN, 1, MAX, 0, 0, MAX],
+        [MAX / 2, MAX / 2, 0, MAX - 1, MAX - 1, 0],
+        [MAX, MIN, 1, 0, 0, 1],
+        [MAX, MIN, MAX, MAX - 1, MAX - 1, MAX],
+    ] {
+        group.check_tight(&Case::new(&straight, &[0, 0], &list));
+    }
+}
+
+/// Adds long layers, the floors of which pass 32 bits by far.
+fn long_floors(group: &mut Group) {
+    let places: Vec<u16> = (0..32).map(|i| i % 16 * 273).collect();
+    let mut draft = Draft::new(WIDTH_LIMIT, &[16, 16]);
+    for separation in draft.layers.iter_mut().flatten() {
+        separation.minimum = 273;
+    }
+    let layer = [&[MAX][..], &[MAX, 0].repeat(15), &[MAX]].concat();
+    let case = Case::new(&draft, &places, &layer.repeat(2));
+    group.note("two rigid layers of 16 nodes, all pushed: yes");
+    group.check_tight(&case);
+    group.note("one push one less, at the left, in the middle and at the right: no");
+    for i in [0, 15, 31] {
+        let mut case = case.clone();
+        case.list[i] -= 1;
+        group.check(&case);
+    }
+    for separation in draft.layers.iter_mut().flatten() {
+        separation.minimum = 272;
+        separation.maximum = 273;
+    }
+    let pairs = [&[0][..], &[MAX; 30], &[0]].concat().repeat(2);
+    let case = Case::new(&draft, &places, &pairs);
+    group.note("room of one step between all nodes, the floor far below: no");
+    group.check(&case);
+    group.note("the same with zeros: yes");
+    group.check_lists(&case, vec![zeros(&draft.sheet())]);
+}

@@ -1,0 +1,265 @@
+//! Pull lists that differ a little from ones that show a least drawing.
+
+use super::{Case, Group};
+use crate::document;
+use crate::draft::Draft;
+use crate::mutation::{
+    around_layers, around_pairs, around_parallel_edges, changed, circulate, exchanged, first_push,
+    moved_pushes, pull_changes,
+};
+use crate::random::Random;
+use crate::sheet::{PLAIN, STRAIGHT};
+
+/// Sheets of different shape, each with its leftmost least drawing and a list that shows it.
+pub(super) fn samples() -> Vec<(&'static str, Case)> {
+    let rigid = Draft::new(3, &[3, 2])
+        .separation(1, 1, 1, 1)
+        .separation(1, 2, 2, 2)
+        .edge(1, 1, 2, PLAIN)
+        .edge(1, 1, 2, PLAIN)
+        .edge(1, 3, 2, STRAIGHT);
+    let drafts = [
+        ("first sheet", document::first()),
+        ("stair", document::stair(2, PLAIN)),
+        ("two over three", document::two_over_three(1)),
+        ("one over three", document::one_over_three()),
+        ("parallel edges under a rigid layer", rigid),
+    ];
+    let sample = |(name, draft)| (name, Case::drawn(&draft));
+    drafts.into_iter().map(sample).collect()
+}
+
+/// Lists with one thing changed.
+pub fn near_misses() -> Group {
+    let mut group = Group::new("lists with one thing changed");
+    for (name, case) in samples() {
+        group.note(&format!("{name}, unchanged: yes"));
+        group.check_tight(&case);
+        for (kind, lists) in [
+            (
+                "one number one more, one less, its sign turned",
+                changed(&case.list, pull_changes),
+            ),
+            ("two neighbours exchanged", exchanged(&case.list)),
+        ] {
+            group.note(&format!("{name}, {kind}"));
+            group.check_lists(&case, lists);
+        }
+    }
+    one_of_three_pairs(&mut group);
+    group
+}
+
+/// Adds a layer of four nodes with a push on one pair, and the push moved to the next pair.
+fn one_of_three_pairs(group: &mut Group) {
+    for left in 1..=3 {
+        let draft = Draft::new(5, &[4, 1])
+            .edge(1, left, 1, PLAIN)
+            .edge(1, left + 1, 1, PLAIN);
+        let case = Case::drawn(&draft);
+        group.note(&format!("a push on pair {left} of three: yes"));
+        group.check_tight(&case);
+        group.note("the push moved to the next pair or the one before: no");
+        for list in moved_pushes(&draft.sheet(), &case.list) {
+            group.check_tight(&Case::new(&draft, &case.places, &list));
+        }
+    }
+}
+
+/// Lists with changes that keep the balance at every node.
+pub fn circulations() -> Group {
+    let mut group = Group::new("changes that keep the balance");
+    let mut random = Random::new(20);
+    for (name, case) in samples() {
+        let sheet = case.draft.sheet();
+        let mut lists = Vec::new();
+        for amount in [1, -1] {
+            lists.extend(around_layers(&sheet, &case.list, amount));
+            lists.extend(around_pairs(&sheet, &case.list, amount));
+            lists.extend(around_parallel_edges(&sheet, &case.list, amount));
+        }
+        for _ in 0..8 {
+            let mut list = case.list.clone();
+            circulate(&mut random, &sheet, &mut list, 1);
+            if !lists.contains(&list) {
+                lists.push(list);
+            }
+        }
+        group.note(&format!("{name}, changes around a cycle"));
+        group.check_lists(&case, lists);
+    }
+    group
+}
+
+/// Lists whose floor equals the total, and all rules but one are met.
+pub fn rules() -> Group {
+    let mut group = Group::new("one rule broken, the floor equal to the total");
+    pulls(&mut group);
+    pushes(&mut group);
+    balance(&mut group);
+    floor(&mut group);
+    group
+}
+
+/// Adds pulls of two parallel edges of length 0 that have these kinds.
+fn parallel_pulls(group: &mut Group, kinds: [u16; 2], pulls: &[[i32; 2]]) {
+    let draft = Draft::new(3, &[1, 1])
+        .edge(1, 1, 1, kinds[0])
+        .edge(1, 1, 1, kinds[1]);
+    for pulls in pulls {
+        let list = [&pulls[..], &[0; 4]].concat();
+        group.check_tight(&Case::new(&draft, &[2, 2], &list));
+    }
+}
+
+/// Adds pulls on either side of their limits.
+fn pulls(group: &mut Group) {
+    group.note("pulls of parallel edges, a plain one out of limits: no");
+    for kinds in [[PLAIN, PLAIN], [PLAIN, STRAIGHT], [STRAIGHT, PLAIN]] {
+        parallel_pulls(group, kinds, &[[2, -2], [-2, 2], [100, -100]]);
+    }
+    group.note("the same within limits: yes");
+    for kinds in [[PLAIN, PLAIN], [PLAIN, STRAIGHT], [STRAIGHT, PLAIN]] {
+        parallel_pulls(group, kinds, &[[0, 0], [1, -1], [-1, 1]]);
+    }
+    group.note("straight edges are free: yes");
+    parallel_pulls(group, [STRAIGHT; 2], &[[1, -1], [2, -2], [-70000, 70000]]);
+    group.note("the floor of the pulls is kept, but not the balance: no");
+    parallel_pulls(group, [STRAIGHT; 2], &[[1, 1], [2, -1], [0, 70000]]);
+    long_edges(group);
+}
+
+/// Adds pulls of parallel plain edges that have a length.
+fn long_edges(group: &mut Group) {
+    let long = Draft::new(1, &[2, 2])
+        .edge(1, 2, 1, PLAIN)
+        .edge(1, 2, 1, PLAIN);
+    let case = Case::drawn(&long);
+    group.note("parallel edges of length 1, each pulled by one: yes");
+    group.check_tight(&case);
+    group.note("pulled by the same in all, out of limits: no");
+    for pull in [[-2, 0], [0, -2], [-3, 1], [1, -3]] {
+        let mut case = case.clone();
+        case.list[..2].copy_from_slice(&pull);
+        group.check_tight(&case);
+    }
+}
+
+/// Adds pushes on either side of 0, and pushes of a maximum that is not set.
+fn pushes(group: &mut Group) {
+    let rigid = Draft::new(3, &[3])
+        .separation(1, 1, 1, 1)
+        .separation(1, 2, 2, 2);
+    let combinations = (0..27).map(|i| [i % 3 - 1, i / 3 % 3 - 1, i / 9 - 1]);
+    let (bad, good) = combinations.partition(|amounts| amounts.contains(&-1));
+    let mut add = |name: &str, combinations: Vec<[i32; 3]>| {
+        group.note(name);
+        for [layer, left, right] in combinations {
+            let list = [layer, layer + left, left, layer + right, right, layer];
+            group.check_tight(&Case::new(&rigid, &[0, 1, 3], &list));
+        }
+    };
+    add("pushes on a rigid layer: yes", good);
+    add("the same with a push below 0: no", bad);
+    minimum_below_0(group);
+    let loose = Draft::new(2, &[2]);
+    group.note("a maximum pushes that is not set: no");
+    for times in [1, 2, 1 << 20] {
+        let list = [1, 2, 1, 1].map(|n| n * times);
+        group.check_tight(&Case::new(&loose, &[0, 1], &list));
+        group.check_tight(&Case::new(&loose, &[0, 2], &list));
+    }
+    group.note("a maximum pushes that is set and equals the minimum: yes");
+    let tied = Draft::new(2, &[2]).separation(1, 1, 1, 1);
+    group.check_tight(&Case::new(&tied, &[0, 1], &[0, 1, 1, 0]));
+    group.check_tight(&Case::new(&tied, &[1, 2], &[0, 1, 1, 0]));
+}
+
+/// Adds lists in which only the minimum of a pair pushes below 0, in place of its maximum.
+fn minimum_below_0(group: &mut Group) {
+    let draft = Draft::new(4, &[3, 3])
+        .separation(1, 1, 1, 1)
+        .separation(1, 2, 1, 1)
+        .separation(2, 1, 2, 0)
+        .separation(2, 2, 2, 0)
+        .edge(1, 1, 1, PLAIN)
+        .edge(1, 3, 3, PLAIN);
+    let case = Case::drawn(&draft);
+    group.note("three nodes that maxima hold together: yes");
+    group.check_tight(&case);
+    group.note("the minimum of one pair below 0, in place of its maximum: no");
+    for list in around_pairs(&draft.sheet(), &case.list, -1).iter().take(2) {
+        group.check_tight(&Case::new(&draft, &case.places, list));
+    }
+}
+
+/// Adds lists that break the balance at one node only; a second layer mends the floor.
+fn balance(group: &mut Group) {
+    let draft = Draft::new(3, &[3, 2]).separation(2, 1, 1, 2);
+    let case = Case::drawn(&draft);
+    let sheet = draft.sheet();
+    let mend = first_push(&sheet, 1) + 1;
+    group.note("the balance broken at one node: no");
+    for layer in 0..2 {
+        let left = first_push(&sheet, layer);
+        for passed in 0..sheet.layers[layer].separations.len() + 1 {
+            let mut case = case.clone();
+            case.list[left] += 1;
+            for pair in 0..passed {
+                case.list[left + 1 + 2 * pair] += 1;
+            }
+            case.list[mend] += passed as i32;
+            case.list[mend + 1] += passed as i32;
+            group.check_tight(&case);
+        }
+    }
+    group.note("one push of the left boundary: no");
+    for (_, mut case) in samples() {
+        case.list[first_push(&case.draft.sheet(), 0)] += 1;
+        group.check_tight(&case);
+    }
+    group.note("one push of the right boundary, width 0: no");
+    let case = Case::drawn(&document::one_node());
+    group.check_tight(&Case::new(&case.draft, &[0], &[0, 1]));
+    group.note("both boundaries, width 0: yes");
+    group.check_tight(&Case::new(&case.draft, &[0], &[5, 5]));
+    edge_balance(group);
+}
+
+/// Adds lists in which only the pulls are out of balance.
+fn edge_balance(group: &mut Group) {
+    let square = Draft::new(3, &[2, 2])
+        .edge(1, 1, 1, PLAIN)
+        .edge(1, 1, 2, PLAIN)
+        .edge(1, 2, 1, PLAIN)
+        .edge(1, 2, 2, PLAIN);
+    let case = Case::drawn(&square);
+    group.note("the balance broken at the ends of one edge: no");
+    group.check_lists(&case, {
+        let pulls = changed(&case.list[..4], pull_changes);
+        let whole = |pulls: Vec<i32>| [&pulls[..], &case.list[4..]].concat();
+        pulls.into_iter().map(whole).collect()
+    });
+    let aligned = Draft::new(3, &[1, 1, 1])
+        .edge(1, 1, 1, STRAIGHT)
+        .edge(2, 1, 1, STRAIGHT);
+    group.note("a pull through three layers that nothing pushes against: no");
+    for list in [[1, 1], [-1, -1], [1, 0], [0, 1], [1, -1]] {
+        let list = [&list[..], &[0; 6]].concat();
+        group.check_tight(&Case::new(&aligned, &[1, 1, 1], &list));
+    }
+    group.note("the left boundaries push against it, one of them below 0: no");
+    group.check_tight(&Case::new(&aligned, &[0; 3], &[1, 1, -1, 0, 0, 0, 1, 0]));
+}
+
+/// Adds lists that meet all rules and have a floor below the total.
+fn floor(group: &mut Group) {
+    let draft = Draft::new(3, &[2]).separation(1, 1, 1, 2);
+    group.note("all rules met and the floor below the total: no");
+    for list in [[0, 1, 1, 0], [1, 1, 0, 1], [0, 9, 9, 0], [2, 3, 1, 2]] {
+        group.check(&Case::new(&draft, &[0, 1], &list));
+    }
+    group.note("all rules met and the floor equal to the total: yes");
+    group.check_tight(&Case::new(&draft, &[0, 1], &[0; 4]));
+    group.check_tight(&Case::new(&draft, &[1, 3], &[0; 4]));
+}
