@@ -6,6 +6,7 @@
 //! hexadecimal digits, with a space between them.
 
 pub mod check;
+pub mod draw;
 pub mod format;
 mod line;
 
@@ -39,6 +40,7 @@ impl Group {
 pub fn groups() -> Vec<Group> {
     let mut groups = format::groups();
     groups.extend(check::groups());
+    groups.extend(draw::groups());
     groups
 }
 

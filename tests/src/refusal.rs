@@ -14,6 +14,10 @@ pub const MAXIMUM_BELOW_MINIMUM: u32 = 5;
 pub const EXCESS: u32 = 6;
 /// A slice is too short for what is to be read or written there.
 pub const SLICE_TOO_SHORT: u32 = 7;
+/// No drawing exists.
+pub const NO_DRAWING: u32 = 8;
+/// The total is too large.
+pub const TOTAL_TOO_LARGE: u32 = 9;
 
 /// One of the numbers above, and an offset in bytes (for the writer: an index).
 #[derive(Clone, Copy, Debug, PartialEq, Eq)]

@@ -2,12 +2,25 @@
 
 use std::fs;
 use std::path::Path;
+use std::sync::OnceLock;
 
-use second::cases::{check, files, format, groups, Group};
+use second::cases::{check, draw, files, format, groups, Group};
 
 /// The command that writes the stored files anew, from the root of the repository.
 const REWRITE: &str = "cd tests && CARGO_TARGET_DIR=../target/cargo \
     cargo run --release --offline --bin cases -- ../crates/library_test";
+
+/// All groups, computed once.
+fn all_groups() -> &'static [Group] {
+    static GROUPS: OnceLock<Vec<Group>> = OnceLock::new();
+    GROUPS.get_or_init(groups)
+}
+
+/// The groups of the engine, computed once.
+fn draw_groups() -> &'static [Group] {
+    static GROUPS: OnceLock<Vec<Group>> = OnceLock::new();
+    GROUPS.get_or_init(draw::groups)
+}
 
 /// Checks that a stored file has the lines computed.
 fn check_stored(name: &str, computed: &str) {
@@ -39,7 +52,7 @@ fn check_stored(name: &str, computed: &str) {
 
 #[test]
 fn stored_files_are_up_to_date() {
-    for (name, computed) in files(&groups()) {
+    for (name, computed) in files(all_groups()) {
         check_stored(name, &computed);
     }
 }
@@ -47,7 +60,8 @@ fn stored_files_are_up_to_date() {
 #[test]
 fn no_group_is_empty() {
     assert_eq!((format::groups().len(), check::groups().len()), (14, 16));
-    for group in groups() {
+    assert_eq!(draw_groups().len(), 13);
+    for group in all_groups() {
         assert!(group.count() > 0, "{}", group.name);
     }
 }
@@ -70,8 +84,9 @@ fn there_are_many_damaged_cases() {
 
 #[test]
 fn cases_are_small_enough() {
-    let [(_, input), (_, output)] = files(&groups());
-    assert!(input.len() < 500_000 && output.len() < 500_000);
+    let [(_, input), (_, output)] = files(all_groups());
+    assert!(input.len() < 800_000 && output.len() < 800_000);
+    assert!(input.lines().all(|line| line.len() < 32_768));
     assert!(input.is_ascii() && output.is_ascii());
     assert_eq!(input.lines().count(), output.lines().count());
 }
@@ -123,6 +138,44 @@ fn lines_of_the_checker_keep_the_columns() {
 }
 
 #[test]
+fn lines_of_the_engine_keep_the_columns() {
+    let [(_, input), _] = files(draw_groups());
+    for [operation, places, numbers, payload] in parts(&input) {
+        assert_eq!(operation, "D");
+        let (places, numbers) = (hexadecimal(&places), hexadecimal(&numbers));
+        assert!(places <= 300 && numbers <= 1100, "{payload}");
+        let digits = payload.len();
+        assert!(digits % 2 == 0 && digits / 2 <= 5130, "{payload}");
+    }
+}
+
+#[test]
+fn engine_has_many_cases_of_each_answer() {
+    let [_, (_, output)] = files(draw_groups());
+    let count = |answer: &str| {
+        let answers = output.lines().filter(|line| !line.starts_with('#'));
+        answers.filter(|line| line.starts_with(answer)).count()
+    };
+    assert!(count("") >= 600);
+    assert!(count("total ") >= 350);
+    assert!(count("total ") - count("total 0:") >= 250);
+    for (number, least) in [
+        (1, 5),
+        (2, 2),
+        (3, 4),
+        (4, 4),
+        (5, 3),
+        (6, 6),
+        (7, 70),
+        (8, 150),
+    ] {
+        let answer = format!("refused {number} at ");
+        assert!(count(&answer) >= least, "{answer}");
+    }
+    assert_eq!(count("refused 9"), 0);
+}
+
+#[test]
 fn checker_has_many_cases_of_each_answer() {
     let [_, (_, output)] = files(&check::groups());
     let count = |answer: &str| {
@@ -139,9 +192,9 @@ fn checker_has_many_cases_of_each_answer() {
     assert_eq!(count("refused 8"), 0);
 }
 
-#[test]
-fn notes_tell_the_answers() {
-    let [_, (_, output)] = files(&check::groups());
+/// Checks that each note that ends in a word of the checker tells the word of the lines below it.
+fn check_notes(groups: &[Group], word: fn(&str) -> Option<&str>) -> usize {
+    let [_, (_, output)] = files(groups);
     let mut told = 0;
     let mut note = "";
     for line in output.lines() {
@@ -149,12 +202,21 @@ fn notes_tell_the_answers() {
             note = line;
             continue;
         }
-        let word = line.split(' ').next();
         match note.rsplit(": ").next() {
-            answer @ Some("yes" | "no" | "refused") => assert_eq!(word, answer, "{note}"),
+            answer @ Some("yes" | "no" | "refused") => assert_eq!(word(line), answer, "{note}"),
             _ => continue,
         }
         told += 1;
     }
+    told
+}
+
+#[test]
+fn notes_tell_the_answers() {
+    let told = check_notes(&check::groups(), |line| line.split(' ').next());
     assert!(told >= 600, "{told}");
+    let told = check_notes(draw_groups(), |line| {
+        line.rsplit("; ").next()?.split(' ').next()
+    });
+    assert!(told >= 250, "{told}");
 }

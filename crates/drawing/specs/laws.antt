@@ -9,7 +9,7 @@ pub mod Good
 pub mod GoodNumbers
 pub mod Proper
 pub mod ArcCount
-pub mod Storable
+pub mod ArcLimits
 pub mod Extents
 pub mod Shift
 pub mod LeastAssignment

@@ -1,4 +1,5 @@
 // The cases: the form of a line, and the operations.
+use crate::draw::draw_case;
 use crate::hex;
 use crate::show;
 use crate::smaller;
@@ -7,7 +8,7 @@ use crate::smaller;
 const PAYLOAD: usize = 12;
 
 // The bytes that a payload may have.
-const PAYLOAD_BYTES: usize = 5130;
+pub const PAYLOAD_BYTES: usize = 5130;
 
 // The numbers that a payload may have.
 const PAYLOAD_NUMBERS: usize = 2570;
@@ -18,11 +19,11 @@ const NUMBER_ROOM: usize = 2560;
 // The greatest room for bytes.
 const BYTE_ROOM: usize = 5122;
 
-// The places that a case of the checker may have.
-const PLACES: usize = 300;
+// The places that a case of the checker or of the engine may have.
+pub const PLACES: usize = 300;
 
-// The numbers of a list that a case of the checker may have.
-const LIST: usize = 1100;
+// The numbers of a list that a case of the checker or of the engine may have.
+pub const LIST: usize = 1100;
 
 // Whether a byte may stand in a column behind the first: a space between two parts, else a digit.
 fn fits_column(column: usize, byte: u8) -> bool {
@@ -146,6 +147,7 @@ fn operation(letter: u8, room: usize, at: usize, payload: &[u8]) -> bool {
         b'G' => get_case(at, payload),
         b'P' => put_case(room, at, payload),
         b'C' => check_case(room, at, payload),
+        b'D' => draw_case(room, at, payload),
         _ => false,
     }
 }

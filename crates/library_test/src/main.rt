@@ -1,15 +1,16 @@
 // Test of the library: answers each case of the standard input with what the library answers.
 mod cases;
+mod draw;
 mod hex;
+mod input;
 mod show;
 
 use cases::case;
-use libc::STDIN_FILENO;
-ghost use Prim.Native.Nat.{_<_, _≤_};
-ghost use lib.ListN.{length};
+use input::read_line;
+ghost use Prim.Native.Nat.{_≤_};
 
-// The bytes that the whole input may have.
-const INPUT_BYTES: usize = 524288;
+// The bytes that a line may have, its line end among them.
+const LINE_BYTES: usize = 32768;
 
 // The smaller of two numbers.
 fn smaller(a: usize, b: usize) -> usize
@@ -18,49 +19,40 @@ fn smaller(a: usize, b: usize) -> usize
     if a < b { a } else { b }
 }
 
-// Where the line at a position ends: behind its line end, or with the input.
-fn line_end(input: &[u8], at: usize) -> usize
-    requires { ⌜ at < length (now input) ⌝ }
-    ensures { λ r. ⌜ (at < r) × (r ≤ length (now (input .entry))) ⌝ }
-{
-    let mut i = at;
-    while i < input.len() {
-        if input[i] == b'\n' {
-            return i + 1;
-        }
-        i += 1;
+// Whether a line names the cases below it and is none itself.
+fn is_comment(line: &[u8]) -> bool {
+    if line.len() == 0 {
+        return false;
     }
-    i
+    line[0] == b'#'
 }
 
-// Answers the line from a position to its end: a comment is copied, any other line is a case.
-fn line(input: &[u8], at: usize, end: usize)
-    requires { ⌜ (at < end) × (end ≤ length (now input)) ⌝ }
-{
-    if input[at] == b'#' {
-        show::text(&input[at..end]);
-        return;
-    }
-    let last = end - 1;
-    if !case(&input[at..last]) {
+// Answers a line: a comment is copied, any other line is a case.
+fn answer(line: &[u8]) {
+    if is_comment(line) {
+        show::text(line);
+    } else if !case(line) {
         show::text(b"unknown case");
     }
     show::text(b"\n");
 }
 
-// Answers each line of the input.
-fn lines(input: &[u8]) {
-    let mut at: usize = 0;
-    while at < input.len() {
-        let end = line_end(input, at);
-        line(input, at, end);
-        at = end;
+// Reads the next line and answers it. Answers whether there was one.
+fn answer_next() -> bool {
+    let mut line = [0u8; LINE_BYTES];
+    let n = read_line(&mut line);
+    if n == 0 {
+        return false;
     }
+    let last = n - 1;
+    answer(&line[0..last]);
+    true
 }
 
-// Reads the input and answers its lines.
+// Answers each line of the input. A proved loop has to end, so it counts down from more lines than any input has.
 fn main() {
-    let mut input = [0u8; INPUT_BYTES];
-    let n = io::read_full(STDIN_FILENO, &mut input);
-    lines(&input[..n]);
+    let mut turns = u64::MAX;
+    while turns > 0 && answer_next() {
+        turns -= 1;
+    }
 }

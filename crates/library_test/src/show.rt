@@ -1,5 +1,6 @@
 // Answers and slices as text on the standard output.
 use checker::Verdict;
+use engine::Answer as Drawing;
 use leb128::Answer;
 use leb128::Found;
 use leb128::Placed;
@@ -69,6 +70,25 @@ pub fn verdict(verdict: Verdict) {
         Verdict::No => text(b"no"),
         Verdict::Refused(r) => refusal(r),
     }
+}
+
+// Prints the answer of the engine.
+pub fn drawing(drawing: Drawing) {
+    match drawing {
+        Drawing::Drawn(total) => {
+            text(b"total ");
+            decimal(total as usize);
+        }
+        Drawing::Refused(r) => refusal(r),
+    }
+    text(b":");
+}
+
+// Prints how many numbers of a list are kept.
+pub fn kept(count: usize) {
+    text(b"; ");
+    decimal(count);
+    text(b" kept; ");
 }
 
 // Prints a byte behind a space.

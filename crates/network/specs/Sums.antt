@@ -34,3 +34,8 @@ below (suc n) t = t n && below n t
 -- x at u, and 0 at any other number
 abbrev pub only : ℕ → ℤ → ℕ → ℤ
 only u x v = cond (eqb u v) x (pos 0)
+
+-- the sum of f over the numbers below n
+unfoldable pub sum-to : ℕ → (ℕ → ℕ) → ℕ
+sum-to zero f = 0
+sum-to (suc n) f = f n + sum-to n f

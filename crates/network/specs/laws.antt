@@ -14,3 +14,5 @@ pub mod Differences
 pub mod PackedBack
 pub mod Hanging
 pub mod PackedLegal
+pub mod SumsTo
+pub mod TestedAnswers

@@ -22,7 +22,7 @@ use Rattle.drawing.specs.Arcs.{edge-arc, layer-arcs, network}
 use Rattle.drawing.specs.laws.GoodNumbers.{accepts-good}
 use Rattle.drawing.specs.laws.Proper.{Proper, accepts-proper}
 use Rattle.drawing.specs.laws.ArcCount.{arcs-count}
-use Rattle.drawing.specs.laws.Storable.{network-storable}
+use Rattle.drawing.specs.laws.ArcLimits.{network-storable}
 use Rattle.arcs.specs.declared.Counts.{Counts}
 use Rattle.arcs.specs.Loading.{arcs-size}
 use Rattle.arcs.specs.laws.Loaded.{LoadedSheet}
@@ -89,7 +89,7 @@ module _ {a : List ℕ} {c : Counts} (h : Holds a c) where
 
   -- each can be read back
   stored : T (all storable xs)
-  stored = network-storable S proper
+  stored = network-storable (h .numbers) proper
 
   -- every kink is a small number
   pub kinks-small : (i : ℕ) → i < c .arcs → getD a (stride * i + kink-at) 0 < 2 * kink-zero

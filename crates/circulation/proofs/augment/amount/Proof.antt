@@ -1,0 +1,23 @@
+-- `circulation::augment::amount` meets its contract: the lesser of what t has to spare and its room.
+use native.Mathlib.Omega.{arith}
+use borrow.Author.Needs.{needs}
+use Rattle.circulation.proofs.augment.amount.Statement.{statement}
+use Rattle.circulation.proofs.augment.amount.Tie as tie
+
+get-requires : tie.Need-get-requires
+get-requires c κs = search needs
+
+sub-least : tie.Need-sub-least
+sub-least c = search needs
+
+get-requires-2 : tie.Need-get-requires-2
+get-requires-2 c κs = search needs
+
+least-requires : tie.Need-least-requires
+least-requires c κs = search needs
+
+returns : tie.Need-returns
+returns c = record { some = c .least .ensures .2 (omega (arith, c .before .before .get .ensures, c .before .before .before .before .pre .2)) (omega (arith, c .before .get2 .ensures, c .before .before .before .before .pre .3)); room-fits = omega (arith, c .least .ensures .1, c .before .get2 .ensures); spare-fits = omega (arith, c .least .ensures .0, c .before .before .get .ensures, c .before .before .before .before .pre .2) }
+
+pub amount-spec : {M : Type 1} → statement M
+amount-spec = tie.close (tie.spec get-requires sub-least get-requires-2 least-requires returns)

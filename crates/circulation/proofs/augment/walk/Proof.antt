@@ -1,0 +1,53 @@
+-- `circulation::augment::walk` meets its contract: the loop's invariant is `Walking`; the rank falls.
+use Rattle.circulation.specs.inside.Search.{Pushable, Pushed}
+use Rattle.network.specs.Net.{net, at}
+use Rattle.circulation.specs.Nodes.{column, potentials, ranks, parents, rooms}
+use Rattle.circulation.proofs.laws.Walks.{Walking, walk-start, walked, pushable, walk-next}
+use Rattle.circulation.specs.laws.Columns.{column-length}
+use lib.ListN.{length}
+use mathlib.Core.Path.{subst, sym}
+use Prim.Native.Nat.{ℕ}
+use native.Mathlib.Omega.{arith}
+use Rattle.circulation.proofs.augment.walk.Statement.{statement}
+use Rattle.circulation.proofs.augment.walk.Tie as tie
+
+abbrev Inv-loop : tie.InvT-loop
+Inv-loop arcs flows₀ nodes s t d v₀ flows v = Walking (net arcs (length flows₀)) s t d (potentials nodes) flows₀ (column 1 nodes) (ranks nodes) (parents nodes) (rooms nodes) flows v
+
+abbrev μ-loop : tie.MeasureT-loop
+μ-loop arcs flows₀ nodes s t d v₀ flows v = at (ranks nodes) v
+
+loop-holds : tie.Need-loop-holds Inv-loop μ-loop
+loop-holds c = walk-start (c .before .before .before .pre .0) (c .before .before .before .pre .1)
+
+get-requires : tie.Need-get-requires Inv-loop μ-loop
+get-requires c κs = (omega (arith, c .before .before .loop .inv .v-in, column-length 0 (c .before .before .before .before .before .before .args .nodes .now)), omega (arith, c .before .before .loop .inv .v-in, c .before .before .before .before .before .before .pre .0 .state .wf .nodes), omega arith)
+
+push-requires : tie.Need-push-requires Inv-loop μ-loop
+push-requires c κs = subst (λ (m : ℕ). Pushable (net (c .before .before .before .before .before .before .before .args .arcs .now) m) (c .before .before .before .loop .flows) (c .get .result) (c .before .before .before .loop .v) (c .before .before .before .before .before .before .before .args .d)) (sym (c .before .before .before .loop .inv .x-size)) (subst (λ (i : ℕ). Pushable (net (c .before .before .before .before .before .before .before .args .arcs .now) (length (c .before .before .before .before .before .before .before .args .flows .now))) (c .before .before .before .loop .flows) i (c .before .before .before .loop .v) (c .before .before .before .before .before .before .before .args .d)) (sym (c .get .ensures)) (pushable (c .before .before .before .loop .inv) (c .before .before .loop-test .taken)))
+
+loop-less : tie.Need-loop-less Inv-loop μ-loop
+loop-less c = walk-next (c .before .before .before .before .before .before .loop .inv) (c .before .before .before .before .before .loop-test .taken) (c .before .before .push .last .1 .0) (c .before .before .push .result) (subst (λ (m : ℕ). Pushed (net (c .before .before .before .before .before .before .before .before .before .before .args .arcs .now) m) (c .before .before .before .before .before .before .loop .flows) (at (parents (c .before .before .before .before .before .before .before .before .before .before .args .nodes .now)) (c .before .before .before .before .before .before .loop .v)) (c .before .before .before .before .before .before .loop .v) (c .before .before .before .before .before .before .before .before .before .before .args .d) (c .before .before .push .last .1 .0) (c .before .before .push .result)) (c .before .before .before .before .before .before .loop .inv .x-size) (subst (λ (i : ℕ). Pushed (net (c .before .before .before .before .before .before .before .before .before .before .args .arcs .now) (length (c .before .before .before .before .before .before .loop .flows))) (c .before .before .before .before .before .before .loop .flows) i (c .before .before .before .before .before .before .loop .v) (c .before .before .before .before .before .before .before .before .before .before .args .d) (c .before .before .push .last .1 .0) (c .before .before .push .result)) (c .before .before .before .get .ensures) (c .before .before .push .ensures))) .1
+
+loop-again : tie.Need-loop-again Inv-loop μ-loop
+loop-again c = walk-next (c .before .before .before .before .before .before .loop .inv) (c .before .before .before .before .before .loop-test .taken) (c .before .before .push .last .1 .0) (c .before .before .push .result) (subst (λ (m : ℕ). Pushed (net (c .before .before .before .before .before .before .before .before .before .before .args .arcs .now) m) (c .before .before .before .before .before .before .loop .flows) (at (parents (c .before .before .before .before .before .before .before .before .before .before .args .nodes .now)) (c .before .before .before .before .before .before .loop .v)) (c .before .before .before .before .before .before .loop .v) (c .before .before .before .before .before .before .before .before .before .before .args .d) (c .before .before .push .last .1 .0) (c .before .before .push .result)) (c .before .before .before .before .before .before .loop .inv .x-size) (subst (λ (i : ℕ). Pushed (net (c .before .before .before .before .before .before .before .before .before .before .args .arcs .now) (length (c .before .before .before .before .before .before .loop .flows))) (c .before .before .before .before .before .before .loop .flows) i (c .before .before .before .before .before .before .loop .v) (c .before .before .before .before .before .before .before .before .before .before .args .d) (c .before .before .push .last .1 .0) (c .before .before .push .result)) (c .before .before .before .get .ensures) (c .before .before .push .ensures))) .0
+
+same-length : tie.Need-same-length Inv-loop μ-loop
+same-length c = c .before .loop .inv .x-size
+
+returns : tie.Need-returns Inv-loop μ-loop
+returns c = walked (c .before .loop .inv) (c .loop-test .left)
+
+pub walk-spec : {M : Type 1} → statement M
+walk-spec =
+    tie.close
+    (tie.spec
+    Inv-loop
+    μ-loop
+    loop-holds
+    get-requires
+    push-requires
+    loop-less
+    loop-again
+    same-length
+    returns)

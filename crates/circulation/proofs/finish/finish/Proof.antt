@@ -1,0 +1,34 @@
+-- `circulation::finish::finish` meets its contract: clearing keeps the potentials.
+use Rattle.circulation.proofs.laws.Finishes.{settled-same}
+use borrow.Author.Needs.{needs}
+use Rattle.circulation.proofs.finish.finish.Statement.{statement}
+use Rattle.circulation.proofs.finish.finish.Tie as tie
+
+settle-requires : tie.Need-settle-requires
+settle-requires c κs = search needs
+
+clear-others-requires : tie.Need-clear-others-requires
+clear-others-requires c κs = search needs
+
+erase-requires : tie.Need-erase-requires
+erase-requires c κs = search needs
+
+same-length : tie.Need-same-length
+same-length c = search needs
+
+same-length-2 : tie.Need-same-length-2
+same-length-2 c = search needs
+
+returns : tie.Need-returns
+returns c = (settled-same (c .before .before .before .before .before .before .before .before .before .before .settle .ensures) (c .before .before .before .before .before .before .clear-others .ensures .1), (c .before .before .before .before .before .before .clear-others .ensures .0, c .before .before .erase .ensures))
+
+pub finish-spec : {M : Type 1} → statement M
+finish-spec =
+    tie.close
+    (tie.spec
+    settle-requires
+    clear-others-requires
+    erase-requires
+    same-length
+    same-length-2
+    returns)

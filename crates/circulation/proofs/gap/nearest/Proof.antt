@@ -1,0 +1,43 @@
+-- `circulation::gap::nearest` meets its contract: the loop's invariant is `Seeking`.
+use Rattle.network.specs.Net.{at, net}
+use Rattle.circulation.specs.Nodes.{potentials, ranks}
+use mathlib.Core.Logic.{⊎-elim}
+use Prim.Native.Nat.{_-_}
+use lib.ListN.{length}
+use Rattle.circulation.proofs.laws.Gaps.{Seeking, seek-start, seek-take, seek-keep, seek-found}
+use borrow.Author.Needs.{needs}
+use Rattle.circulation.proofs.gap.nearest.Statement.{statement}
+use Rattle.circulation.proofs.gap.nearest.Tie as tie
+
+abbrev Inv-loop : tie.InvT-loop
+Inv-loop arcs flows nodes best₀ arc₀ i₀ best arc i = Seeking (net arcs (length flows)) (at (potentials nodes)) (at flows) (at (ranks nodes)) best arc i
+
+abbrev μ-loop : tie.MeasureT-loop
+μ-loop arcs flows nodes best₀ arc₀ i₀ best arc i = length flows - i
+
+loop-holds : tie.Need-loop-holds Inv-loop μ-loop
+loop-holds c = seek-start
+
+gap-at-requires : tie.Need-gap-at-requires Inv-loop μ-loop
+gap-at-requires c κs = (c .before .before .before .before .before .pre .0, c .loop-test .taken)
+
+add-i : tie.Need-add-i Inv-loop μ-loop
+add-i c = search needs
+
+loop-less : tie.Need-loop-less Inv-loop μ-loop
+loop-less c = search needs
+
+loop-again : tie.Need-loop-again Inv-loop μ-loop
+loop-again c =
+    ⊎-elim
+    (λ w. rw (w .1, w .2) (seek-take (c .before .before .before .loop .inv) (c .before .before .loop-test .taken) (c .before .gap-at .ensures) (w .0 .taken)))
+    (λ w. rw (w .1, w .2) (seek-keep (c .before .before .before .loop .inv) (c .before .before .loop-test .taken) (c .before .gap-at .ensures) (w .0 .left)))
+    (c .if1 .came)
+
+returns : tie.Need-returns Inv-loop μ-loop
+returns c = seek-found (c .before .loop .inv) (c .loop-test .left) (c .before .before .before .before .before .pre .1)
+
+pub nearest-spec : {M : Type 1} → statement M
+nearest-spec =
+    tie.close
+    (tie.spec Inv-loop μ-loop loop-holds gap-at-requires add-i loop-less loop-again returns)

@@ -1,0 +1,99 @@
+-- The gap of an arc is the step at which it lets a node be reached, and a scan finds the least: case by case on which end is reached.
+use Rattle.network.specs.Net.{Net, arcs, tail, head, low, high, asks, stands}
+use Rattle.circulation.specs.inside.Search.{Enters, Leaves, Distance, Gap, GapAt, Crosses, Crossing, step}
+use Rattle.circulation.specs.inside.Steps.{Nearest}
+use mathlib.Core.Path.{_≡_}
+use mathlib.Core.Logic.{inl, inr, ⊎-elim}
+use Prim.Native.Nat.{ℕ, _+_, _≤_, _<_}
+use native.Mathlib.Decide.{decLt}
+use native.Mathlib.Omega.{arith}
+use borrow.Author.Count.{below-none, below-more}
+
+module _ {a b h t x l c : ℕ} where
+  -- an arc that does not cross has no step
+  never : (Enters a b h t x l c → ⊥) → (Leaves a b h t x l c → ⊥) → Gap a b h t x l c 4294967296
+  never not-enters not-leaves = record {
+    some = λ l. absurd (omega arith);
+    least = ⊎-elim (λ l. absurd (not-enters l)) (λ e. absurd (not-leaves e));
+  }
+
+  -- the step of an arc whose head is reached
+  pub entering : {r : ℕ} → 0 < h → t ≡ 0 → Distance a b x c r → Gap a b h t x l c r
+  entering from to d = record {
+    some = λ few. (inl (record { from = from; to = to; slack = d .some few .0; room = d .some few .1 }), omega (arith, d .some few .0, d .some few .2));
+    least = ⊎-elim (λ e. (omega (arith, e .slack, d .least (e .slack) (e .room) .0), d .least (e .slack) (e .room) .1)) (λ e. absurd (omega (arith, e .to)));
+  }
+
+  -- the step of an arc whose tail is reached
+  pub leaving : {r : ℕ} → 0 < t → h ≡ 0 → Distance b a l x r → Gap a b h t x l c r
+  leaving from to d = record {
+    some = λ few. (inr (record { from = from; to = to; slack = d .some few .0; room = d .some few .1 }), omega (arith, d .some few .0, d .some few .2));
+    least = ⊎-elim (λ e. absurd (omega (arith, e .from))) (λ e. (omega (arith, e .slack, d .least (e .slack) (e .room) .0), d .least (e .slack) (e .room) .1));
+  }
+
+  -- an arc between reached nodes has none
+  pub both-in : 0 < h → 0 < t → Gap a b h t x l c 4294967296
+  both-in of-head of-tail = never (λ e. omega (arith, e .to)) (λ e. omega (arith, e .to))
+
+  -- nor has one between other nodes
+  pub both-out : h ≡ 0 → t ≡ 0 → Gap a b h t x l c 4294967296
+  both-out of-head of-tail = never (λ e. omega (arith, e .from)) (λ e. omega (arith, e .from))
+
+-- a distance, by equal numbers
+same-distance : {a a′ b b′ x x′ c c′ r : ℕ} → a ≡ a′ → b ≡ b′ → x ≡ x′ → c ≡ c′ → Distance a b x c r → Distance a′ b′ x′ c′ r
+same-distance ea eb ex ec d = record {
+  some = λ few. (omega (arith, d .some few .0), omega (arith, d .some few .1), omega (arith, d .some few .2));
+  least = λ l m. (omega (arith, d .least (omega arith) (omega arith) .0), d .least (omega arith) (omega arith) .1);
+}
+
+module _ (N : Net) (p x order : ℕ → ℕ) (i : ℕ) where
+  -- the step of arc i, from the numbers read: its head is reached
+  pub gap-enter : {a b y c r : ℕ} → a ≡ stands N p i → b ≡ asks N p i → y ≡ x i → c ≡ high N i → 0 < order (head N i) → order (tail N i) ≡ 0 → Distance a b y c r → GapAt N p x order i r
+  gap-enter ea eb ey ec from to d = entering from to (same-distance ea eb ey ec d)
+
+  -- its tail is reached
+  pub gap-leave : {a b y c r : ℕ} → a ≡ stands N p i → b ≡ asks N p i → y ≡ x i → c ≡ low N i → 0 < order (tail N i) → order (head N i) ≡ 0 → Distance b a c y r → GapAt N p x order i r
+  gap-leave ea eb ey ec from to d = leaving from to (same-distance eb ea ec ey d)
+
+-- among the first i arcs, arc has the least step, best; 2 ^ 32 where none crosses
+pub record Seeking (N : Net) (p x order : ℕ → ℕ) (best arc i : ℕ) : Type 0 where
+  pub in-list : i ≤ arcs N
+  pub top : best ≤ 4294967296
+  pub found : best < 4294967296 → (arc < i) × Crosses N p x order arc × (best ≡ step N p arc)
+  pub least : (j : ℕ) → j < i → Crosses N p x order j → (best ≤ step N p j) × (best < 4294967296)
+
+module _ {N : Net} {p x order : ℕ → ℕ} where
+  -- no arc is looked at yet
+  pub seek-start : Seeking N p x order 4294967296 0 0
+  seek-start = record { in-list = omega arith; top = omega arith; found = λ l. absurd (omega arith); least = below-none _ }
+
+  module _ {best arc i r : ℕ} (s : Seeking N p x order best arc i) (l : i < arcs N) (g : GapAt N p x order i r) where
+    -- arc i has a lesser step
+    pub seek-take : r < best → Seeking N p x order r i (i + 1)
+    seek-take less = record {
+      in-list = omega arith;
+      top = omega (arith, s .top);
+      found = λ few. (omega arith, g .some few .0, g .some few .1);
+      least = below-more _ i (λ j j-in w. (omega (arith, s .least j j-in w .0), omega (arith, s .top))) (λ w. (omega (arith, g .least w .0), g .least w .1));
+    }
+
+    -- or it has not
+    pub seek-keep : best ≤ r → Seeking N p x order best arc (i + 1)
+    seek-keep more = record {
+      in-list = omega arith;
+      top = s .top;
+      found = λ few. (omega (arith, s .found few .0), s .found few .1, s .found few .2);
+      least = below-more _ i (s .least) (λ w. (omega (arith, g .least w .0), omega (arith, g .least w .1)));
+    }
+
+  -- the arc found is nearest, where some arc crosses
+  pub seek-found : {best arc i : ℕ} → Seeking N p x order best arc i → arcs N ≤ i → Crossing N p x order → Nearest N (arcs N) p x order arc
+  seek-found {best} {arc} {i} s past some = go (decLt best 4294967296)
+    where
+      go : Dec (best < 4294967296) → Nearest N (arcs N) p x order arc
+      go (yes few) = (omega (arith, s .found few .0, s .in-list), s .found few .1, λ j l w. omega (arith, s .least j (omega arith) w .0, s .found few .2))
+      go (no none) = absurd (some (λ j l w. omega (arith, s .least j (omega arith) w .1)))
+
+-- an arc that crosses on its kink is nearest
+pub near-zero : (N : Net) (p x order : ℕ → ℕ) (i : ℕ) → i < arcs N → GapAt N p x order i 0 → Nearest N (arcs N) p x order i
+near-zero N p x order i l g = (l, g .some (omega arith) .0, λ j j-in w. omega (arith, g .some (omega arith) .1))

@@ -1,0 +1,310 @@
+-- The walk back from t to s: each arc on the way moves d. Only the ends' needs change, so what is counted at the node where the walk stands is
+-- d too much, and nowhere else.
+use Rattle.network.specs.laws.SumsTo.{at-set, sum-to-ge, sum-to-eq, sum-to-add}
+use Rattle.network.specs.Net.{at, Net, arcs, tail, head, low, high, stands, asks}
+use Rattle.circulation.specs.inside.Slackness.{pick, flow, inflow, outflow, Slack}
+use Rattle.circulation.specs.Input.{WellFormed}
+use Rattle.circulation.specs.inside.Search.{surplus, Link, State, Reached, Amount, Pushable, Pushed, Walked}
+use mathlib.Core.Path.{_≡_, refl, sym, subst, ap, _∙_}
+use mathlib.Core.Logic.{_⊎_, ⊎-elim}
+use mathlib.Core.List.{List}
+use Prim.Native.Nat.{ℕ, zero, suc, _+_, _-_, _≤_, _<_}
+use native.Mathlib.Nat.{le-refl}
+use native.Mathlib.Decide.{ℕ-discrete}
+use native.Mathlib.Omega.{arith}
+use lib.ListN.{length, set, length-set}
+use lib.Seq.{getD-set-other}
+use Rattle.circulation.proofs.laws.Flows.{flow-set, sum-pick, pick-yes, pick-no}
+use Rattle.network.specs.Packed.{high-none}
+use Rattle.circulation.specs.Nodes.{need-zero}
+
+-- flows are at most 2 ^ 29
+pub x-top : {N : Net} {n : ℕ} {p x : ℕ → ℕ} → WellFormed N n → Slack N p x → (i : ℕ) → i < arcs N → x i ≤ high-none
+x-top {N} {n} {p} {x} wf s i l = go (ℕ-discrete (high N i) high-none)
+  where
+    go : Dec (high N i ≡ high-none) → x i ≤ high-none
+    go (yes e) = omega (arith, s .within i l .1)
+    go (no ne) = omega (arith, s .within i l .1, wf .arc-in i l .high-in .soft ne)
+
+-- a sum, picked
+pick-add : (u v a b : ℕ) → pick u v (a + b) ≡ pick u v a + pick u v b
+pick-add u v a b = go (ℕ-discrete u v)
+  where
+    go : Dec (u ≡ v) → pick u v (a + b) ≡ pick u v a + pick u v b
+    go (yes e) = omega (arith, pick-yes u v (a + b) e, pick-yes u v a e, pick-yes u v b e)
+    go (no ne) = omega (arith, pick-no u v (a + b) ne, pick-no u v a ne, pick-no u v b ne)
+
+-- the ends of a link have at most its node's rank
+link-top : {N : Net} {p x order room : ℕ → ℕ} {w j : ℕ} → Link N p x order room w j → (order (tail N j) ≤ order w) × (order (head N j) ≤ order w)
+link-top {N} {p} {x} {order} {room} {w} {j} l = ⊎-elim
+    (λ e. (omega (arith, ap order (e .0)), omega (arith, e .2)))
+    (λ e. (omega (arith, e .2), omega (arith, ap order (e .0))))
+    (l .ends)
+
+-- no node has more room than the source
+module _ {N : Net} {s t : ℕ} {p x e order via room : List ℕ} (r : Reached N s t p x e order via room) where
+  -- the law for nodes of rank at most k
+  room-top : (k v : ℕ) → v < length p → 0 < at order v → at order v ≤ k → at room v ≤ at room s
+  room-top zero v l some few = absurd (omega arith)
+  room-top (suc k) v l some few = elim (ℕ-discrete v s) [
+    | yes same ↦ omega (arith, ap (at room) same)
+    | no ne ↦ step (r .tree .links v l some ne) (λ u u-in u-some less. room-top k u u-in u-some (omega arith))
+  ]
+    where
+      step : Link N (at p) (at x) (at order) (at room) v (at via v) → ((u : ℕ) → u < length p → 0 < at order u → at order u < at order v → at room u ≤ at room s) → at room v ≤ at room s
+      step k up = ⊎-elim
+          (λ c. omega (arith, c .4, up (head N (at via v)) (r .state .wf .arc-in (at via v) (k .arc-in) .head-in) (c .1) (c .2)))
+          (λ c. omega (arith, c .4, up (tail N (at via v)) (r .state .wf .arc-in (at via v) (k .arc-in) .tail-in) (c .1) (c .2)))
+          (k .ends)
+
+  -- the end has room
+  pub end-room : 0 < at room t
+  end-room = elim (ℕ-discrete t s) [
+    | yes same ↦ omega (arith, ap (at room) same, r .tree .root-room)
+    | no ne ↦ r .tree .links t (r .t-in) (r .t-reached) ne .some
+  ]
+
+  -- an amount is at most what is left to move
+  pub amount-most : (d : ℕ) → Amount s t d (at e) (at room) → (d + need-zero ≤ at e s) × (d ≤ surplus (length p) (at e))
+  amount-most d a =
+      let top = room-top (at order t) t (r .t-in) (r .t-reached) (le-refl _) in (
+        omega (arith, a .room-fits, r .root-fits, top),
+        omega (arith, a .room-fits, r .root-fits, top, sum-to-ge (length p) (λ y. at e y - need-zero) s (r .tree .s-in)),
+      )
+
+-- from t the walk has come to v; x₀ are the flows before it
+pub record Walking (N : Net) (s t d : ℕ) (p x₀ e order via room x : List ℕ) (v : ℕ) : Type 0 where
+  pub reached : Reached N s t p x₀ e order via room
+  pub amount : Amount s t d (at e) (at room)
+  pub x-size : length x ≡ length x₀
+  pub slack : Slack N (at p) (at x)
+  pub steps : (i : ℕ) → (at x i ≤ at x₀ i + d) × (at x₀ i ≤ at x i + d)
+  pub fresh : (w : ℕ) → w < length p → 0 < at order w → (w ≡ s → ⊥) → at order w ≤ at order v → at x (at via w) ≡ at x₀ (at via w)
+  pub v-in : v < length p
+  pub v-reached : 0 < at order v
+  pub v-room : d ≤ at room v
+  pub moved : (y : ℕ) → y < length p → at e y + inflow N (arcs N) (at x) y + pick t y d ≡ need-zero + outflow N (arcs N) (at x) y + pick v y d
+
+module _ {N : Net} {s t d : ℕ} {p x₀ e order via room : List ℕ} where
+  -- the walk starts at t
+  pub walk-start : Reached N s t p x₀ e order via room → Amount s t d (at e) (at room) → Walking N s t d p x₀ e order via room x₀ t
+  walk-start r a = record {
+    reached = r;
+    amount = a;
+    x-size = refl;
+    slack = r .state .slack;
+    steps = λ i. (omega arith, omega arith);
+    fresh = λ w w-in l ne low. refl;
+    v-in = r .t-in;
+    v-reached = r .t-reached;
+    v-room = a .room-fits;
+    moved = λ y y-in. omega (arith, r .state .needs-are .need y y-in);
+  }
+
+  -- the walk has come to s
+  pub walked : {x : List ℕ} {v : ℕ} → Walking N s t d p x₀ e order via room x v → v ≡ s → Walked N s t d p e x₀ x
+  walked {x} {v} w same = record { size-same = w .x-size; slack = w .slack; steps = w .steps; moved = λ y y-in. omega (arith, w .moved y y-in, ap (λ (u : ℕ). pick u y d) same) }
+
+  module _ {x : List ℕ} {v : ℕ} (w : Walking N s t d p x₀ e order via room x v) (on : v ≡ s → ⊥) where
+    -- the network is one
+    wf : WellFormed N (length p)
+    wf = w .reached .state .wf
+
+    -- the arc over which v was reached
+    link : Link N (at p) (at x₀) (at order) (at room) v (at via v)
+    link = w .reached .tree .links v (w .v-in) (w .v-reached) on
+
+    -- its flow is as before the walk
+    x-same : at x (at via v) ≡ at x₀ (at via v)
+    x-same = w .fresh v (w .v-in) (w .v-reached) on (le-refl _)
+
+    -- it is an arc
+    x-in : at via v < length x
+    x-in = omega (arith, link .arc-in, w .x-size, w .reached .state .x-size)
+
+    -- it can move d
+    pub pushable : Pushable N x (at via v) v d
+    pushable = record {
+      i-arc = link .arc-in;
+      list-room = omega (arith, link .arc-in, wf .room);
+      i-x = x-in;
+      i-in = omega (arith, link .arc-in, wf .few);
+      up = λ is. ⊎-elim (λ c. omega (arith, c .3, x-same, w .v-room, high-top)) (λ c. absurd (omega (arith, c .2, ap (at order) is))) (link .ends);
+      down = λ ne. ⊎-elim (λ c. absurd (ne (c .0))) (λ c. (omega (arith, c .3, x-same, w .v-room), x-top wf (w .slack) (at via v) (link .arc-in))) (link .ends);
+    }
+      where
+        high-top : high N (at via v) ≤ high-none
+        high-top = elim (ℕ-discrete (high N (at via v)) high-none) [
+          | yes e ↦ omega arith
+          | no ne ↦ omega (arith, wf .arc-in (at via v) (link .arc-in) .high-in .soft ne)
+        ]
+
+    -- d moved from u to v over arc i, whose flow becomes a
+    module _ (u a : ℕ) (u-in : u < length p) (u-reached : 0 < at order u) (u-low : at order u < at order v) (u-room : at room v ≤ at room u)
+        (a-steps : (a ≤ at x₀ (at via v) + d) × (at x₀ (at via v) ≤ a + d)) (a-fits : (low N (at via v) ≤ a) × (a ≤ high N (at via v)))
+        (balanced : (y : ℕ) → y < length p → at e y + inflow N (arcs N) (at (set x (at via v) a)) y + pick t y d ≡ need-zero + outflow N (arcs N) (at (set x (at via v) a)) y + pick u y d) where
+      -- arc i is no other node's
+      not-i : (y : ℕ) → y < length p → 0 < at order y → (y ≡ s → ⊥) → at order y ≤ at order u → at via y ≡ at via v → ⊥
+      not-i y y-in l ne low same =
+          let top = subst (λ (k : ℕ). (at order (tail N k) ≤ at order y) × (at order (head N k) ≤ at order y)) same (link-top (w .reached .tree .links y y-in l ne)) in
+          ⊎-elim (λ c. omega (arith, ap (at order) (c .0), top .0)) (λ c. omega (arith, ap (at order) (c .0), top .1)) (link .ends)
+
+      -- the flow of each arc then
+      stored : (j : ℕ) → ((j ≡ at via v) × (at (set x (at via v) a) j ≡ a)) ⊎ ((j ≡ at via v → ⊥) × (at (set x (at via v) a) j ≡ at x j))
+      stored j = at-set x (at via v) a j x-in
+
+      -- d is at most what is left to move
+      most : d ≤ surplus (length p) (at e)
+      most = amount-most (w .reached) d (w .amount) .1
+
+      -- the flows fit the potentials
+      slack′ : Slack N (at p) (at (set x (at via v) a))
+      slack′ = record {
+        within = λ j l. ⊎-elim (λ c. rw (c .1, c .0) a-fits) (λ c. rw (c .1) (w .slack .within j l)) (stored j);
+        not-full = λ j l hard. ⊎-elim (λ c. omega (arith, c .1, hard, ap (at x₀) (c .0), a-steps .0, most, w .reached .state .spare-high j l hard)) (λ c. omega (arith, c .1, w .slack .not-full j l hard)) (stored j);
+        not-empty = λ j l hard. ⊎-elim (λ c. omega (arith, c .1, hard, ap (at x₀) (c .0), a-steps .1, most, w .reached .state .spare-low j l hard)) (λ c. omega (arith, c .1, w .slack .not-empty j l hard)) (stored j);
+        left = λ j l less. ⊎-elim (λ c. absurd (tight j (c .0) less)) (λ c. c .1 ∙ w .slack .left j l less) (stored j);
+        right = λ j l less. ⊎-elim (λ c. absurd (tight′ j (c .0) less)) (λ c. c .1 ∙ w .slack .right j l less) (stored j);
+      }
+        where
+          tight : (j : ℕ) → j ≡ at via v → stands N (at p) j < asks N (at p) j → ⊥
+          tight j same more = let there = rw same at more in omega (arith, there, link .tight)
+
+          tight′ : (j : ℕ) → j ≡ at via v → asks N (at p) j < stands N (at p) j → ⊥
+          tight′ j same more = let there = rw same at more in omega (arith, there, link .tight)
+
+      -- the walk is at u
+      next : Walking N s t d p x₀ e order via room (set x (at via v) a) u
+      next = record {
+        reached = w .reached;
+        amount = w .amount;
+        x-size = simp length-set (w .x-size);
+        slack = slack′;
+        steps = λ j. ⊎-elim (λ c. (omega (arith, c .1, ap (at x₀) (c .0), a-steps .0), omega (arith, c .1, ap (at x₀) (c .0), a-steps .1))) (λ c. (omega (arith, c .1, w .steps j .0), omega (arith, c .1, w .steps j .1))) (stored j);
+        fresh = λ y y-in l ne low. getD-set-other x (at via v) (at via y) a 0 (not-i y y-in l ne low) ∙ w .fresh y y-in l ne (omega arith);
+        v-in = u-in;
+        v-reached = u-reached;
+        v-room = omega (arith, w .v-room);
+        moved = balanced;
+      }
+
+    -- the flows at y when arc i's flow becomes a
+    module _ (a y : ℕ) where
+      -- what flows out
+      tails : flow (arcs N) (tail N) (at (set x (at via v) a)) y + pick (tail N (at via v)) y (at x (at via v)) ≡ flow (arcs N) (tail N) (at x) y + pick (tail N (at via v)) y a
+      tails = flow-set (arcs N) (tail N) x (at via v) a y (link .arc-in) x-in
+
+      -- what flows in
+      heads : flow (arcs N) (head N) (at (set x (at via v) a)) y + pick (head N (at via v)) y (at x (at via v)) ≡ flow (arcs N) (head N) (at x) y + pick (head N (at via v)) y a
+      heads = flow-set (arcs N) (head N) x (at via v) a y (link .arc-in) x-in
+
+    -- the walk goes on over it
+    pub walk-next : (x′ : List ℕ) (u : ℕ) → Pushed N x (at via v) v d x′ u → Walking N s t d p x₀ e order via room x′ u × (at order u < at order v)
+    walk-next x′ u m = ⊎-elim up down (link .ends)
+      where
+        lower : (k : ℕ) → u ≡ k → at order k < at order v → at order u < at order v
+        lower k is low = rw is low
+
+        up : (tail N (at via v) ≡ v) × (0 < at order (head N (at via v))) × (at order (head N (at via v)) < at order v) × (at x₀ (at via v) + at room v ≤ high N (at via v)) × (at room v ≤ at room (head N (at via v))) → Walking N s t d p x₀ e order via room x′ u × (at order u < at order v)
+        up c =
+            let is = m .up (c .0) .0 in
+            let low = lower (head N (at via v)) is (c .2) in
+            let u-in : u < length p = rw is (wf .arc-in (at via v) (link .arc-in) .head-in) in (
+              rw (m .up (c .0) .1)
+                  (next u (at x (at via v) + d) u-in (rw is (c .1)) low (rw is (c .4)) (omega (arith, x-same), omega (arith, x-same)) (omega (arith, w .slack .within (at via v) (link .arc-in) .0), omega (arith, x-same, w .v-room, c .3))
+                  (λ y y-in. omega (
+                    arith,
+                    w .moved y y-in,
+                    tails (at x (at via v) + d) y,
+                    heads (at x (at via v) + d) y,
+                    pick-add (tail N (at via v)) y (at x (at via v)) d,
+                    pick-add (head N (at via v)) y (at x (at via v)) d,
+                    ap (λ (k : ℕ). pick k y d) (c .0),
+                    ap (λ (k : ℕ). pick k y d) is,
+                  ))),
+              low,
+            )
+
+        down : (head N (at via v) ≡ v) × (0 < at order (tail N (at via v))) × (at order (tail N (at via v)) < at order v) × (low N (at via v) + at room v ≤ at x₀ (at via v)) × (at room v ≤ at room (tail N (at via v))) → Walking N s t d p x₀ e order via room x′ u × (at order u < at order v)
+        down c =
+            let ne : tail N (at via v) ≡ v → ⊥ = λ h. omega (arith, ap (at order) h, c .2) in
+            let is = m .down ne .0 in
+            let low = lower (tail N (at via v)) is (c .2) in
+            let rest : at x (at via v) - d + d ≡ at x (at via v) = omega (arith, x-same, w .v-room, c .3) in
+            let u-in : u < length p = rw is (wf .arc-in (at via v) (link .arc-in) .tail-in) in (
+              rw (m .down ne .1)
+                  (next u (at x (at via v) - d) u-in (rw is (c .1)) low (rw is (c .4)) (omega (arith, x-same), omega (arith, x-same)) (omega (arith, x-same, w .v-room, c .3), omega (arith, w .slack .within (at via v) (link .arc-in) .1))
+                  (λ y y-in. omega (
+                    arith,
+                    w .moved y y-in,
+                    tails (at x (at via v) - d) y,
+                    heads (at x (at via v) - d) y,
+                    pick-add (tail N (at via v)) y (at x (at via v) - d) d,
+                    pick-add (head N (at via v)) y (at x (at via v) - d) d,
+                    ap (λ (k : ℕ). pick (tail N (at via v)) y k) rest,
+                    ap (λ (k : ℕ). pick (head N (at via v)) y k) rest,
+                    ap (λ (k : ℕ). pick k y d) (c .0),
+                    ap (λ (k : ℕ). pick k y d) is,
+                  ))),
+              low,
+            )
+
+-- the needs of the two ends are counted: the state is one again, and d less is left to move
+module _ {N : Net} {s t d : ℕ} {p x₀ x e order via room : List ℕ} (e′ : List ℕ) (r : Reached N s t p x₀ e order via room) (a : Amount s t d (at e) (at room))
+    (w : Walked N s t d p e x₀ x) (e-size : length e′ ≡ length e) (c : (v : ℕ) → at e′ v + pick s v d ≡ at e v + pick t v d) where
+  -- s needs as much
+  pub source-fits : d + need-zero ≤ at e s
+  source-fits = amount-most r d a .0
+
+  -- s is not t
+  not-t : s ≡ t → ⊥
+  not-t same = omega (arith, source-fits, r .deficit, ap (at e) same)
+
+  -- the need of s
+  at-s : at e′ s + d ≡ at e s
+  at-s = omega (arith, c s, pick-yes s s d refl, pick-no t s d (λ same. not-t (sym same)))
+
+  -- the need of t
+  at-t : at e′ t ≡ at e t + d
+  at-t = omega (arith, c t, pick-no s t d not-t, pick-yes t t d refl)
+
+  -- the need of any other
+  at-y : (y : ℕ) → (y ≡ s → ⊥) → (y ≡ t → ⊥) → at e′ y ≡ at e y
+  at-y y ne-s ne-t = omega (arith, c y, pick-no s y d (λ same. ne-s (sym same)), pick-no t y d (λ same. ne-t (sym same)))
+
+  -- the surplus of a node
+  less-at : (y : ℕ) → (at e′ y - need-zero) + pick s y d ≡ at e y - need-zero
+  less-at y = go (ℕ-discrete y s) (ℕ-discrete y t)
+    where
+      go : Dec (y ≡ s) → Dec (y ≡ t) → (at e′ y - need-zero) + pick s y d ≡ at e y - need-zero
+      go (yes is) z = omega (arith, ap (at e) is, ap (at e′) is, at-s, source-fits, pick-yes s y d (sym is))
+      go (no ne) (yes is) = omega (arith, ap (at e) is, ap (at e′) is, at-t, a .spare-fits, pick-no s y d (λ same. ne (sym same)))
+      go (no ne) (no nt) = omega (arith, at-y y ne nt, pick-no s y d (λ same. ne (sym same)))
+
+  -- d less is left to move
+  pub less-left : surplus (length p) (at e′) + d ≡ surplus (length p) (at e)
+  less-left = omega (
+    arith,
+    sum-to-add (length p) (λ y. at e′ y - need-zero) (λ y. pick s y d),
+    sum-pick (length p) s d (r .tree .s-in),
+    sum-to-eq (length p) (λ y. (at e′ y - need-zero) + pick s y d) (λ y. at e y - need-zero) (λ y l. less-at y),
+  )
+
+  -- the state is one again
+  pub augmented : State N p x e′
+  augmented = record {
+    wf = r .state .wf;
+    x-size = w .size-same ∙ r .state .x-size;
+    e-size = e-size ∙ r .state .e-size;
+    p-in = r .state .p-in;
+    calm = λ y l few. r .state .calm y l (spare y few (ℕ-discrete y s) (ℕ-discrete y t));
+    slack = w .slack;
+    needs-are = record { need = λ y l. omega (arith, w .moved y l, c y) };
+    spare-high = λ i l hard. omega (arith, less-left, r .state .spare-high i l hard, w .steps i .0);
+    spare-low = λ i l hard. omega (arith, less-left, r .state .spare-low i l hard, w .steps i .1);
+  }
+    where
+      spare : (y : ℕ) → at e′ y < need-zero → Dec (y ≡ s) → Dec (y ≡ t) → at e y < need-zero
+      spare y few (yes is) z = absurd (omega (arith, ap (at e′) is, at-s, source-fits))
+      spare y few (no ne) (yes is) = omega (arith, ap (at e) is, r .deficit)
+      spare y few (no ne) (no nt) = omega (arith, at-y y ne nt)

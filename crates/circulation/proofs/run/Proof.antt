@@ -1,0 +1,95 @@
+-- `circulation::run` meets its contract: the loop's invariant is `StateAt`; the surplus falls.
+use Rattle.circulation.specs.inside.Steps.{Ends}
+use Rattle.circulation.specs.inside.Search.{State, surplus}
+use Rattle.circulation.specs.Nodes.{size, column, potentials, node-stride}
+use Rattle.network.specs.Net.{net, at}
+use Rattle.circulation.specs.inside.Slackness.{Balanced}
+use Rattle.circulation.specs.Input.{WellFormed}
+use Rattle.circulation.proofs.laws.Searches.{solved}
+use Rattle.circulation.proofs.laws.Starts.{first-near, run-start}
+use Rattle.circulation.specs.laws.Columns.{column-length}
+use lib.ListN.{length}
+use mathlib.Core.List.{List}
+use mathlib.Core.Path.{_≡_, refl, subst, sym, ap, _∙_}
+use Prim.Native.Nat.{ℕ, _/_}
+use native.Mathlib.Omega.{arith}
+use borrow.Author.Needs.{needs}
+use Rattle.circulation.proofs.run.Statement.{statement}
+use Rattle.circulation.proofs.run.Tie as tie
+
+abbrev Inv-loop : tie.InvT-loop
+Inv-loop arcs flows₀ nodes₀ chains₀ flows nodes chains = State (net arcs (length flows₀)) (potentials nodes) flows (column 1 nodes) × (length nodes ≡ length nodes₀) × (length chains ≡ length chains₀)
+
+abbrev μ-loop : tie.MeasureT-loop
+μ-loop arcs flows₀ nodes₀ chains₀ flows nodes chains = surplus (length nodes₀ / node-stride) (at (column 1 nodes))
+
+count-of-requires : tie.Need-count-of-requires Inv-loop μ-loop
+count-of-requires c κs = search needs
+
+link-all-requires : tie.Need-link-all-requires Inv-loop μ-loop
+link-all-requires c κs = subst (λ (n : ℕ). WellFormed (net (c .before .before .before .before .before .before .before .args .arcs .now) (length (c .before .before .before .before .before .before .before .args .flows .now))) n) (sym (c .count-of .ensures)) (c .before .before .before .before .before .before .before .pre .wf)
+
+saturate-requires : tie.Need-saturate-requires Inv-loop μ-loop
+saturate-requires c κs = c .before .before .before .before .before .before .before .before .before .before .before .before .pre
+
+count-need-requires : tie.Need-count-need-requires Inv-loop μ-loop
+count-need-requires c κs = (rw (c .before .before .before .before .saturate .kept .1 .0) (c .before .before .before .before .before .before .before .before .before .before .before .before .before .before .before .before .before .pre .wf), λ i l. first-near (at (potentials (c .before .before .before .before .before .before .before .before .before .before .before .before .before .before .before .before .before .args .nodes .now))) (at (c .before .before .before .before .saturate .last .1 .0)) (c .before .before .before .before .before .before .before .before .before .before .before .before .before .before .before .before .before .pre .wf) (c .before .before .before .before .before .before .before .before .before .before .before .before .before .before .before .before .before .pre .feasible) (c .before .before .before .before .saturate .ensures) i (omega (arith, c .before .before .before .before .saturate .kept .1 .0)))
+
+loop-holds : tie.Need-loop-holds Inv-loop μ-loop
+loop-holds c = (run-start (c .before .before .before .before .before .before .before .before .before .before .before .before .before .before .before .before .before .before .before .before .args .arcs .now) (c .before .before .before .before .before .before .before .before .before .before .before .before .before .before .before .before .before .before .before .before .args .flows .now) (c .before .before .before .before .before .before .before .saturate .last .1 .0) (c .before .before .before .before .before .before .before .before .before .before .before .before .before .before .before .before .before .before .before .before .args .nodes .now) (c .before .before .count-need .last .1 .1 .0) (c .before .before .before .before .before .before .before .before .before .before .before .before .before .before .before .before .before .before .before .before .pre) (c .before .before .before .before .before .before .before .saturate .kept .1 .0) (c .before .before .before .before .before .before .before .saturate .ensures) (c .before .before .count-need .ensures .0) (c .before .before .count-need .ensures .1), refl, refl)
+
+source-requires : tie.Need-source-requires Inv-loop μ-loop
+source-requires c κs = omega (arith, c .before .loop .inv .0 .wf .nodes, column-length 0 (c .before .loop .nodes))
+
+enum-known-s : tie.Need-enum-known-s Inv-loop μ-loop
+enum-known-s c = search needs
+
+enum-told : tie.Need-enum-told Inv-loop μ-loop
+enum-told c = search needs
+
+same-length : tie.Need-same-length Inv-loop μ-loop
+same-length c = omega (arith, c .before .before .before .before .loop .inv .0 .x-size, c .before .before .before .before .before .before .before .before .before .before .before .before .saturate .kept .1 .0)
+
+same-length-2 : tie.Need-same-length-2 Inv-loop μ-loop
+same-length-2 c = c .before .before .before .before .loop .inv .1 ∙ c .before .before .before .before .before .before .before .count-need .ensures .1 .length-same
+
+same-length-3 : tie.Need-same-length-3 Inv-loop μ-loop
+same-length-3 c = c .before .before .before .before .loop .inv .2 ∙ c .before .before .before .before .before .before .before .before .before .before .before .before .before .before .before .before .before .link-all .kept .1 .0
+
+returns : tie.Need-returns Inv-loop μ-loop
+returns c = subst (λ (m : ℕ). Ends (net (c .before .before .before .before .before .before .before .before .before .before .before .before .before .before .before .before .before .before .before .before .before .before .before .before .before .args .arcs .now) m) (size (c .before .before .before .before .before .before .before .before .before .before .before .before .before .before .before .before .before .before .before .before .before .before .before .before .before .args .nodes .now)) (c .before .before .before .before .loop .flows) (c .before .before .before .before .loop .nodes)) (c .before .before .before .before .before .before .before .before .before .before .before .before .saturate .kept .1 .0) (c .before .before .before .before .loop .inv .0, subst (λ (n : ℕ). Balanced (net (c .before .before .before .before .before .before .before .before .before .before .before .before .before .before .before .before .before .before .before .before .before .before .before .before .before .args .arcs .now) (length (c .before .before .before .before .before .before .before .before .before .before .before .before .saturate .last .1 .0))) n (at (c .before .before .before .before .loop .flows))) (column-length 0 (c .before .before .before .before .loop .nodes) ∙ ap (λ (k : ℕ). k / node-stride) (c .before .before .before .before .loop .inv .1 ∙ c .before .before .before .before .before .before .before .count-need .ensures .1 .length-same)) (solved (c .before .before .before .before .loop .inv .0) (λ v l. (rw (c .enum-told .given .1) at (c .before .before .source .ensures)) v (omega (arith, column-length 0 (c .before .before .before .before .loop .nodes)))) .1))
+
+search-requires : tie.Need-search-requires Inv-loop μ-loop
+search-requires c κs = (rw (c .before .before .before .before .before .before .before .before .loop .inv .0 .x-size) (c .before .before .before .before .before .before .before .before .loop .inv .0), ((rw (c .before .before .before .before .s .given .1) at (c .before .before .before .before .before .before .source .ensures)) .0, (rw (c .before .before .before .before .s .given .1) at (c .before .before .before .before .before .before .source .ensures)) .1))
+
+augment-requires : tie.Need-augment-requires Inv-loop μ-loop
+augment-requires c κs = c .before .before .before .before .before .before .search .ensures .reached
+
+loop-less : tie.Need-loop-less Inv-loop μ-loop
+loop-less c = omega (arith, c .before .before .before .before .augment .ensures .less, ap (λ (k : ℕ). surplus k (at (column 1 (c .before .before .before .before .augment .last .1 .1 .0)))) (ap (λ (k : ℕ). k / node-stride) (c .before .before .before .before .augment .ensures .length-same ∙ (c .before .before .before .before .before .before .before .before .before .before .before .search .ensures .length-same ∙ c .before .before .before .before .before .before .before .before .before .before .before .before .before .before .before .before .before .before .before .before .loop .inv .1))), ap (λ (k : ℕ). surplus k (at (column 1 (c .before .before .before .before .before .before .before .before .before .before .before .search .last .1 .1 .0)))) (ap (λ (k : ℕ). k / node-stride) (c .before .before .before .before .before .before .before .before .before .before .before .search .ensures .length-same ∙ c .before .before .before .before .before .before .before .before .before .before .before .before .before .before .before .before .before .before .before .before .loop .inv .1)), ap (λ (l : List ℕ). surplus (length (c .before .before .before .before .before .before .before .before .before .before .before .before .before .before .before .before .before .before .before .before .before .before .before .count-need .last .1 .1 .0) / node-stride) (at l)) (c .before .before .before .before .before .before .before .before .before .before .before .search .ensures .needs-same))
+
+loop-again : tie.Need-loop-again Inv-loop μ-loop
+loop-again c = (subst (λ (m : ℕ). State (net (c .before .before .before .before .before .before .before .before .before .before .before .before .before .before .before .before .before .before .before .before .before .before .before .before .before .before .before .before .before .before .before .before .before .before .before .before .before .before .before .before .before .args .arcs .now) m) (potentials (c .before .before .before .before .augment .last .1 .1 .0)) (c .before .before .before .before .augment .last .1 .0) (column 1 (c .before .before .before .before .augment .last .1 .1 .0))) (c .before .before .before .before .before .before .before .before .before .before .before .before .before .before .before .before .before .before .before .before .loop .inv .0 .x-size) (c .before .before .before .before .augment .ensures .state), c .before .before .before .before .augment .ensures .length-same ∙ (c .before .before .before .before .before .before .before .before .before .before .before .search .ensures .length-same ∙ c .before .before .before .before .before .before .before .before .before .before .before .before .before .before .before .before .before .before .before .before .loop .inv .1), c .before .before .before .before .before .before .before .before .before .before .before .search .kept .1 .1 .1 .0 ∙ c .before .before .before .before .before .before .before .before .before .before .before .before .before .before .before .before .before .before .before .before .loop .inv .2)
+
+pub run-spec : {M : Type 1} → statement M
+run-spec =
+    tie.close
+    (tie.spec
+    Inv-loop
+    μ-loop
+    count-of-requires
+    link-all-requires
+    saturate-requires
+    count-need-requires
+    loop-holds
+    source-requires
+    enum-known-s
+    enum-told
+    same-length
+    same-length-2
+    same-length-3
+    returns
+    search-requires
+    augment-requires
+    loop-less
+    loop-again)

@@ -1,0 +1,76 @@
+-- `circulation::search::flood` meets its contract: the loop's invariant is `GrownAt`; the count of nodes left falls.
+use Rattle.circulation.specs.inside.Steps.{GrownAt}
+use Rattle.circulation.specs.Nodes.{size, potentials, ranks, parents, rooms, node-stride}
+use Rattle.network.specs.Net.{net}
+use Rattle.circulation.specs.Input.{Rooted}
+use Rattle.circulation.proofs.laws.Floods.{flood-crosses, flood-whole}
+use Rattle.circulation.proofs.laws.Searches.{begin-grown}
+use Rattle.circulation.specs.laws.Columns.{column-length}
+use lib.ListN.{length}
+use mathlib.Core.Path.{_≡_, refl, subst, sym, ap, _∙_}
+use Prim.Native.Nat.{ℕ, _≤_, _-_, _/_}
+use native.Mathlib.Omega.{arith}
+use borrow.Author.Needs.{needs}
+use Rattle.circulation.proofs.search.flood.Statement.{statement}
+use Rattle.circulation.proofs.search.flood.Tie as tie
+
+abbrev Inv-loop : tie.InvT-loop
+Inv-loop arcs flows nodes₀ chains₀ n g count₀ nodes chains count = GrownAt (net arcs (length flows)) g count flows nodes × (length nodes ≡ length nodes₀) × (count ≤ n) × (length chains ≡ length chains₀)
+
+abbrev μ-loop : tie.MeasureT-loop
+μ-loop arcs flows nodes₀ chains₀ n g count₀ nodes chains count = n - count
+
+count-of-requires : tie.Need-count-of-requires Inv-loop μ-loop
+count-of-requires c κs = search needs
+
+sub-g : tie.Need-sub-g Inv-loop μ-loop
+sub-g c = omega (arith, c .count-of .ensures, column-length 0 (c .before .before .before .before .before .before .args .nodes .now), c .before .before .before .before .before .before .pre .0 .wf .some)
+
+restart-requires : tie.Need-restart-requires Inv-loop μ-loop
+restart-requires c κs = (omega (arith, c .before .count-of .ensures, column-length 0 (c .before .before .before .before .before .before .before .args .nodes .now), c .before .before .before .before .before .before .before .pre .0 .wf .nodes), omega (arith, c .before .count-of .ensures, column-length 0 (c .before .before .before .before .before .before .before .args .nodes .now), c .before .before .before .before .before .before .before .pre .0 .wf .nodes, c .before .before .before .before .before .before .before .pre .0 .wf .some))
+
+begin-requires : tie.Need-begin-requires Inv-loop μ-loop
+begin-requires c κs = (omega (arith, c .before .before .before .before .before .before .before .before .before .before .before .pre .0 .wf .nodes, column-length 0 (c .before .before .before .before .before .before .before .before .before .before .before .args .nodes .now)), omega (arith, c .before .before .before .before .before .count-of .ensures, column-length 0 (c .before .before .before .before .before .before .before .before .before .before .before .args .nodes .now), c .before .before .before .before .before .before .before .before .before .before .before .pre .0 .wf .some), omega arith)
+
+loop-holds : tie.Need-loop-holds Inv-loop μ-loop
+loop-holds c = (begin-grown (potentials (c .before .before .begin .last .0)) (c .before .before .before .before .before .before .before .before .before .before .before .before .before .before .args .flows .now) (ranks (c .before .before .begin .last .0)) (parents (c .before .before .begin .last .0)) (rooms (c .before .before .begin .last .0)) (c .before .before .before .before .before .before .before .before .count-of .result - 1) (omega (arith, c .before .before .before .before .before .before .before .before .count-of .ensures, column-length 0 (c .before .before .before .before .before .before .before .before .before .before .before .before .before .before .args .nodes .now), c .before .before .before .before .before .before .before .before .before .before .before .before .before .before .pre .0 .wf .some, column-length 0 (c .before .before .begin .last .0), c .before .before .begin .ensures .length-same)) (rw (c .before .before .begin .ensures .potentials-same) (c .before .before .before .before .before .before .before .before .before .before .before .before .before .before .pre .0 .wf)) (c .before .before .before .before .before .before .before .before .before .before .before .before .before .before .pre .0 .x-size) (rw (c .before .before .begin .ensures .potentials-same) (c .before .before .before .before .before .before .before .before .before .before .before .before .before .before .pre .0 .p-in)) (rw (c .before .before .begin .ensures .potentials-same) (c .before .before .before .before .before .before .before .before .before .before .before .before .before .before .pre .0 .slack)) (omega (arith, column-length 0 (c .before .before .begin .last .0), column-length 2 (c .before .before .begin .last .0))) (omega (arith, column-length 0 (c .before .before .begin .last .0), column-length 3 (c .before .before .begin .last .0))) (omega (arith, column-length 0 (c .before .before .begin .last .0), column-length 4 (c .before .before .begin .last .0))) (c .before .before .begin .ensures .root) (c .before .before .begin .ensures .alone) (omega (arith, c .before .before .begin .ensures .root-room)), refl, omega (arith, c .before .before .before .before .before .before .before .before .count-of .ensures, column-length 0 (c .before .before .before .before .before .before .before .before .before .before .before .before .before .before .args .nodes .now), c .before .before .before .before .before .before .before .before .before .before .before .before .before .before .pre .0 .wf .some), refl)
+
+extend-requires : tie.Need-extend-requires Inv-loop μ-loop
+extend-requires c κs = (c .before .before .before .loop .inv .0, flood-crosses (c .before .before .before .loop .inv .0) (omega (arith, c .before .before .before .before .before .before .before .before .before .before .before .before .count-of .ensures, column-length 0 (c .before .before .before .loop .nodes), c .before .before .before .loop .inv .1, c .before .before .before .before .before .before .begin .ensures .length-same)) (subst (λ (k : ℕ). Rooted (net (c .before .before .before .before .before .before .before .before .before .before .before .before .before .before .before .before .before .before .args .arcs .now) (length (c .before .before .before .before .before .before .before .before .before .before .before .before .before .before .before .before .before .before .args .flows .now))) k) (sym (column-length 0 (c .before .before .before .loop .nodes) ∙ ap (λ (k : ℕ). k / node-stride) (c .before .before .before .loop .inv .1 ∙ c .before .before .before .before .before .before .begin .ensures .length-same))) (c .before .before .before .before .before .before .before .before .before .before .before .before .before .before .before .before .before .before .pre .1)) (omega (arith, c .before .before .loop-test .taken, c .before .before .before .before .before .before .before .before .before .before .before .before .count-of .ensures, column-length 0 (c .before .before .before .loop .nodes), c .before .before .before .loop .inv .1, c .before .before .before .before .before .before .begin .ensures .length-same)))
+
+add-count : tie.Need-add-count Inv-loop μ-loop
+add-count c = omega (arith, c .before .before .before .before .before .before .before .loop-test .taken, c .before .before .before .before .before .before .before .before .before .before .before .before .before .before .before .before .before .count-of .ensures, column-length 0 (c .before .before .before .before .before .before .before .before .before .before .before .before .before .before .before .before .before .before .before .before .before .before .before .args .nodes .now), c .before .before .before .before .before .before .before .before .before .before .before .before .before .before .before .before .before .before .before .before .before .before .before .pre .0 .wf .nodes)
+
+loop-less : tie.Need-loop-less Inv-loop μ-loop
+loop-less c = omega (arith, c .before .before .before .before .before .before .before .loop-test .taken)
+
+loop-again : tie.Need-loop-again Inv-loop μ-loop
+loop-again c = (c .before .before .before .before .extend .ensures .extends .grown, c .before .before .before .before .extend .ensures .length-same ∙ c .before .before .before .before .before .before .before .before .loop .inv .1, omega (arith, c .before .before .before .before .before .before .before .loop-test .taken), c .before .before .before .before .extend .kept .1 .1 .1 .0 ∙ c .before .before .before .before .before .before .before .before .loop .inv .3)
+
+same-length : tie.Need-same-length Inv-loop μ-loop
+same-length c = c .before .loop .inv .1 ∙ c .before .before .before .before .begin .ensures .length-same
+
+same-length-2 : tie.Need-same-length-2 Inv-loop μ-loop
+same-length-2 c = c .before .loop .inv .3 ∙ c .before .before .before .before .before .before .before .before .restart .kept .0
+
+returns : tie.Need-returns Inv-loop μ-loop
+returns c = record { grown = subst (λ (s : ℕ). GrownAt (net (c .before .before .before .before .before .before .before .before .before .before .before .before .before .before .before .before .args .arcs .now) (length (c .before .before .before .before .before .before .before .before .before .before .before .before .before .before .before .before .args .flows .now))) s (size (c .before .before .before .before .before .before .before .before .before .before .before .before .before .before .before .before .args .nodes .now)) (c .before .before .before .before .before .before .before .before .before .before .before .before .before .before .before .before .args .flows .now) (c .before .loop .nodes)) (ap (λ (k : ℕ). k - 1) (c .before .before .before .before .before .before .before .before .before .before .count-of .ensures)) (subst (λ (k : ℕ). GrownAt (net (c .before .before .before .before .before .before .before .before .before .before .before .before .before .before .before .before .args .arcs .now) (length (c .before .before .before .before .before .before .before .before .before .before .before .before .before .before .before .before .args .flows .now))) (c .before .before .before .before .before .before .before .before .before .before .count-of .result - 1) k (c .before .before .before .before .before .before .before .before .before .before .before .before .before .before .before .before .args .flows .now) (c .before .loop .nodes)) (omega (arith, c .loop-test .left, c .before .loop .inv .2, c .before .before .before .before .before .before .before .before .before .before .count-of .ensures)) (c .before .loop .inv .0)); whole = λ v l. flood-whole (c .before .loop .inv .0) (omega (arith, c .loop-test .left, c .before .before .before .before .before .before .before .before .before .before .count-of .ensures, column-length 0 (c .before .loop .nodes), c .before .loop .inv .1, c .before .before .before .before .begin .ensures .length-same)) v (omega (arith, column-length 0 (c .before .loop .nodes), c .before .loop .inv .1, c .before .before .before .before .begin .ensures .length-same)) }
+
+pub flood-spec : {M : Type 1} → statement M
+flood-spec =
+    tie.close
+    (tie.spec
+    Inv-loop
+    μ-loop
+    count-of-requires
+    sub-g
+    restart-requires
+    begin-requires
+    loop-holds
+    extend-requires
+    add-count
+    loop-less
+    loop-again
+    same-length
+    same-length-2
+    returns)

@@ -1,0 +1,67 @@
+-- `circulation::solve` meets its contract: the whole nodes are lent, and put back before what stands behind them.
+use Rattle.circulation.specs.Nodes.{node-stride}
+use Rattle.network.specs.laws.TestedAnswers.{tested-yes, tested-no}
+use Rattle.circulation.proofs.laws.Parts.{valid-front, solved-back}
+use borrow.Author.Tests.{not-true, not-false}
+use mathlib.Core.Path.{refl, ap}
+use Prim.Native.Nat.{ℕ, _*_}
+use borrow.Author.Needs.{needs}
+use Rattle.circulation.proofs.solve.Statement.{statement}
+use Rattle.circulation.proofs.solve.Tie as tie
+
+valid-requires : tie.Need-valid-requires
+valid-requires c κs = search needs
+
+same-length : tie.Need-same-length
+same-length c = search needs
+
+returns : tie.Need-returns
+returns c = ((λ v. tested-no (c .before .valid .result) (c .before .valid .ensures) (not-true (c .before .valid .result) (c .if1 .taken)) v), refl, refl, refl)
+
+count-of-requires : tie.Need-count-of-requires
+count-of-requires c κs = search needs
+
+mul-end : tie.Need-mul-end
+mul-end c = search needs
+
+sub-whole : tie.Need-sub-whole
+sub-whole c = search needs
+
+part-whole-start : tie.Need-part-whole-start
+part-whole-start c = search needs
+
+part-whole-end : tie.Need-part-whole-end
+part-whole-end c = search needs
+
+whole-requires : tie.Need-whole-requires
+whole-requires c κs = valid-front (c .before .before .before .before .before .before .before .before .before .before .before .before .args .nodes .now) (node-stride * c .before .before .before .count-of .result) (ap (λ (k : ℕ). node-stride * k) (c .before .before .before .count-of .ensures)) (tested-yes (c .before .before .before .before .before .before .valid .result) (c .before .before .before .before .before .before .valid .ensures) (not-false (c .before .before .before .before .before .before .valid .result) (c .before .before .before .before .before .if1 .left)))
+
+same-length-2 : tie.Need-same-length-2
+same-length-2 c = search needs
+
+same-length-3 : tie.Need-same-length-3
+same-length-3 c = search needs
+
+same-length-4 : tie.Need-same-length-4
+same-length-4 c = search needs
+
+returns-2 : tie.Need-returns-2
+returns-2 c = solved-back (c .before .before .before .before .before .before .before .before .before .before .before .before .before .before .before .before .before .before .before .args .nodes .now) (node-stride * c .before .before .before .before .before .before .before .before .before .before .count-of .result) (ap (λ (k : ℕ). node-stride * k) (c .before .before .before .before .before .before .before .before .before .before .count-of .ensures)) (c .before .before .before .before .before .before .whole .last .1 .1 .0) (c .before .before .before .before .before .before .whole .kept .1 .1 .0) (c .before .before .before .before .before .before .before .before .before .before .before .before .before .before .before .before .before .before .before .args .flows .now) (c .before .before .before .before .before .before .whole .last .1 .0) (c .before .before .before .before .before .before .before .before .before .before .before .before .before .before .before .before .before .before .before .args .chains .now) (c .before .before .before .before .before .before .whole .last .1 .1 .1 .0) (tested-yes (c .before .before .before .before .before .before .before .before .before .before .before .before .before .valid .result) (c .before .before .before .before .before .before .before .before .before .before .before .before .before .valid .ensures) (not-false (c .before .before .before .before .before .before .before .before .before .before .before .before .before .valid .result) (c .before .before .before .before .before .before .before .before .before .before .before .before .if1 .left))) (c .before .before .before .before .before .before .whole .kept .1 .0) (c .before .before .before .before .before .before .whole .kept .1 .1 .1 .0) (c .before .before .before .before .before .before .whole .ensures .0) (c .before .before .before .before .before .before .whole .ensures .1 .0) (c .before .before .before .before .before .before .whole .ensures .1 .1)
+
+pub solve-spec : {M : Type 1} → statement M
+solve-spec =
+    tie.close
+    (tie.spec
+    valid-requires
+    same-length
+    returns
+    count-of-requires
+    mul-end
+    sub-whole
+    part-whole-start
+    part-whole-end
+    whole-requires
+    same-length-2
+    same-length-3
+    same-length-4
+    returns-2)

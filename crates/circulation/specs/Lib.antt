@@ -1,0 +1,6 @@
+pub mod Limits
+pub mod Nodes
+pub mod Input
+pub mod Solutions
+pub mod inside
+pub mod laws

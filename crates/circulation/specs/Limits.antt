@@ -1,0 +1,34 @@
+-- The limits of what is taken, and of what the method stores.
+use Prim.Native.Nat.{ℕ}
+
+-- nodes, with ground
+abbrev pub most-nodes : ℕ
+most-nodes = 4096
+
+-- arcs
+abbrev pub most-arcs : ℕ
+most-arcs = 8192
+
+-- a kink as it is stored: at most 65,536, with 65,536 added
+abbrev pub kink-most : ℕ
+kink-most = 131072
+
+-- a low limit as it is stored: at least -1,024, with 2^28 added
+abbrev pub low-least : ℕ
+low-least = 268434432
+
+-- a high limit as it is stored: at most 1,024, with 2^28 added
+abbrev pub high-most : ℕ
+high-most = 268436480
+
+-- a potential to start from: 2^28
+abbrev pub start-limit : ℕ
+start-limit = 268435456
+
+-- a potential between two searches: 3 · 2^28
+abbrev pub rested-limit : ℕ
+rested-limit = 805306368
+
+-- a potential at any time: 5 · 2^28
+abbrev pub potential-limit : ℕ
+potential-limit = 1342177280

@@ -1,0 +1,46 @@
+-- The nodes as packed numbers, six to a node: potential, need, rank, parent, room, and one that is not used. The last node is ground.
+use Prim.Native.Nat.{ℕ, _+_, _*_, _/_}
+use mathlib.Core.List.{List}
+use lib.ListN.{length}
+use Rattle.network.specs.Sums.{upto}
+use Rattle.network.specs.Net.{at}
+
+-- from a node to the next one
+abbrev pub node-stride : ℕ
+node-stride = 6
+
+-- what is added to a need: 2^30
+abbrev pub need-zero : ℕ
+need-zero = 1073741824
+
+-- what is added to a potential that is answered, which is relative to ground's: 2^28
+abbrev pub potential-zero : ℕ
+potential-zero = 268435456
+
+-- how many nodes
+abbrev pub size : List ℕ → ℕ
+size nodes = length nodes / node-stride
+
+-- the k-th numbers of all nodes
+unfoldable pub column : ℕ → List ℕ → List ℕ
+column k nodes = upto (length nodes / node-stride) (λ v. at nodes (node-stride * v + k))
+
+-- where each node stands
+abbrev pub potentials : List ℕ → List ℕ
+potentials nodes = column 0 nodes
+
+-- the need of a node is outflow − inflow, with need-zero added
+abbrev pub needs : List ℕ → List ℕ
+needs nodes = column 1 nodes
+
+-- the rank of a node in the order of reaching; 0 where it is not reached
+abbrev pub ranks : List ℕ → List ℕ
+ranks nodes = column 2 nodes
+
+-- the arc over which a node was reached
+abbrev pub parents : List ℕ → List ℕ
+parents nodes = column 3 nodes
+
+-- what can be moved from the source to a node
+abbrev pub rooms : List ℕ → List ℕ
+rooms nodes = column 4 nodes

@@ -1,0 +1,5 @@
+pub mod Stores
+pub mod Slackness
+pub mod Search
+pub mod Steps
+pub mod Finish

@@ -1,0 +1,177 @@
+-- The search of the method. The need e of a node is outflow − inflow + need-zero (2 ^ 30); order is 0 for a node that is not reached, else its rank.
+use Rattle.network.specs.Net.{at, Net, arcs, tail, head, low, high, asks, stands, HardLow, HardHigh}
+use Rattle.network.specs.Sums.{sum-to}
+use Rattle.circulation.specs.inside.Slackness.{pick, inflow, outflow, Ready, Slack, Small, Low}
+use Rattle.circulation.specs.Input.{WellFormed}
+use mathlib.Core.Path.{_≡_}
+use mathlib.Core.Logic.{_⊎_}
+use mathlib.Core.List.{List}
+use mathlib.Core.Bool.{cond}
+use Prim.Native.Nat.{ℕ, _+_, _-_, _*_, _≤_, _<_}
+use lib.Dec.{eqb}
+use lib.ListN.{length, set}
+use Rattle.network.specs.Packed.{stride, high-none, kink-zero, flow-zero}
+use Rattle.circulation.specs.Nodes.{need-zero}
+use Rattle.circulation.specs.Limits.{most-arcs, rested-limit}
+
+-- e is the need of each node
+pub record Need (N : Net) (n : ℕ) (x e : ℕ → ℕ) : Type 0 where
+  pub need : (v : ℕ) → v < n → e v + inflow N (arcs N) x v ≡ need-zero + outflow N (arcs N) x v
+
+-- what is still to be moved
+abbrev pub surplus : ℕ → (ℕ → ℕ) → ℕ
+surplus n e = sum-to n (λ v. e v - need-zero)
+
+-- an arc that enters the reached nodes and can take more once the head has come to the kink
+pub record Enters (stands asks of-head of-tail x low high : ℕ) : Type 0 where
+  pub from : 0 < of-head
+  pub to : of-tail ≡ 0
+  pub slack : stands ≤ asks
+  pub room : x < high
+
+-- an arc that leaves the reached nodes and can give back once the tail has come to the kink
+pub record Leaves (stands asks of-head of-tail x low high : ℕ) : Type 0 where
+  pub from : 0 < of-tail
+  pub to : of-head ≡ 0
+  pub slack : asks ≤ stands
+  pub room : low < x
+
+-- an arc that crosses, either way
+abbrev pub CrossesBy : (stands asks of-head of-tail x low high : ℕ) → Type 0
+CrossesBy a b h t x l c = Enters a b h t x l c ⊎ Leaves a b h t x l c
+
+-- the distance of two numbers: how far the reached nodes rise until the arc is on its kink
+abbrev pub apart : ℕ → ℕ → ℕ
+apart a b = (b - a) + (a - b)
+
+-- r is the step of an arc that crosses, and 2 ^ 32 for any other
+pub record Gap (stands asks of-head of-tail x low high r : ℕ) : Type 0 where
+  pub some : r < 4294967296 → CrossesBy stands asks of-head of-tail x low high × (r ≡ apart stands asks)
+  pub least : CrossesBy stands asks of-head of-tail x low high → (r ≡ apart stands asks) × (r < 4294967296)
+
+-- arc i crosses
+abbrev pub Crosses : Net → (ℕ → ℕ) → (ℕ → ℕ) → (ℕ → ℕ) → ℕ → Type 0
+Crosses N p x order i = CrossesBy (stands N p i) (asks N p i) (order (head N i)) (order (tail N i)) (x i) (low N i) (high N i)
+
+-- the step of arc i
+abbrev pub step : Net → (ℕ → ℕ) → ℕ → ℕ
+step N p i = apart (stands N p i) (asks N p i)
+
+-- r is the step of arc i
+abbrev pub GapAt : Net → (ℕ → ℕ) → (ℕ → ℕ) → (ℕ → ℕ) → ℕ → ℕ → Type 0
+GapAt N p x order i r = Gap (stands N p i) (asks N p i) (order (head N i)) (order (tail N i)) (x i) (low N i) (high N i) r
+
+-- from to's number to from's number is how far, and less < more: the step of an arc that crosses
+pub record Distance (from to less more r : ℕ) : Type 0 where
+  pub some : r < 4294967296 → (from ≤ to) × (less < more) × (r ≡ to - from)
+  pub least : from ≤ to → less < more → (r ≡ to - from) × (r < 4294967296)
+
+-- node v was reached over the arc i, which is on its kink, from a node of a lower rank; v's room is at most that node's and the arc's residual
+pub record Link (N : Net) (p x order room : ℕ → ℕ) (v i : ℕ) : Type 0 where
+  pub arc-in : i < arcs N
+  pub tight : asks N p i ≡ stands N p i
+  pub some : 0 < room v
+  pub ends :
+      ((tail N i ≡ v) × (0 < order (head N i)) × (order (head N i) < order v) × (x i + room v ≤ high N i) × (room v ≤ room (head N i)))
+      ⊎ ((head N i ≡ v) × (0 < order (tail N i)) × (order (tail N i) < order v) × (low N i + room v ≤ x i) × (room v ≤ room (tail N i)))
+
+-- the reached nodes: s is the first, and each other was reached over an arc
+pub record Tree (N : Net) (n s : ℕ) (p x order via room : ℕ → ℕ) : Type 0 where
+  pub s-in : s < n
+  pub root : order s ≡ 1
+  pub root-room : 0 < room s
+  pub links : (v : ℕ) → v < n → 0 < order v → (v ≡ s → ⊥) → Link N p x order room v (via v)
+
+-- r is room over arc i to its end v, of x and the rooms given
+pub record RoomOver (N : Net) (x room : ℕ → ℕ) (i v r : ℕ) : Type 0 where
+  pub up : tail N i ≡ v → x i < high N i → 0 < room (head N i) → (0 < r) × (x i + r ≤ high N i) × (r ≤ room (head N i))
+  pub down : (tail N i ≡ v → ⊥) → low N i < x i → 0 < room (tail N i) → (0 < r) × (low N i + r ≤ x i) × (r ≤ room (tail N i))
+
+-- the potential a of a node of rank o, with the reached nodes raised by d
+unfoldable pub lift : ℕ → ℕ → ℕ → ℕ
+lift o a d = cond (eqb o 0) a (a + d)
+
+-- the potentials, with the reached nodes raised by d
+abbrev pub lifted : (ℕ → ℕ) → (ℕ → ℕ) → ℕ → ℕ → ℕ
+lifted order p d v = lift (order v) (p v) d
+
+-- the potentials p′ are p with the reached nodes raised by d
+pub record Moved (n d : ℕ) (order p p′ : ℕ → ℕ) : Type 0 where
+  pub moved : (v : ℕ) → v < n → p′ v ≡ lifted order p d v
+  pub small : Small p′
+
+-- a reached node is within 2 ^ 16 times its rank of the source
+pub record Near (n s : ℕ) (order p : ℕ → ℕ) : Type 0 where
+  pub above : (v : ℕ) → v < n → 0 < order v → p v ≤ p s + kink-zero * order v
+  pub below : (v : ℕ) → v < n → 0 < order v → p s ≤ p v + kink-zero * order v
+
+-- some arc crosses
+abbrev pub Crossing : Net → (p x order : ℕ → ℕ) → Type 0
+Crossing N p x order = ((i : ℕ) → i < arcs N → Crosses N p x order i → ⊥) → ⊥
+
+-- how many nodes are not reached
+abbrev pub unreached : ℕ → (ℕ → ℕ) → ℕ
+unreached n order = sum-to n (λ v. cond (eqb (order v) 0) 1 0)
+
+-- a search from s that has reached count nodes
+pub record Grown (N : Net) (s count : ℕ) (p x order via room : List ℕ) : Type 0 where
+  pub ready : Ready N p x order
+  pub via-size : length via ≡ length p
+  pub room-size : length room ≡ length p
+  pub slack : Slack N (at p) (at x)
+  pub tree : Tree N (length p) s (at p) (at x) (at order) (at via) (at room)
+  pub ranks : (v : ℕ) → at order v ≤ count
+  pub rest : unreached (length p) (at order) + count ≡ length p
+  pub near : Near (length p) s (at order) (at p)
+  pub low : (v : ℕ) → v < length p → at order v ≡ 0 → at p v ≤ rested-limit
+
+-- between two searches: the potentials and flows fit, e is the need that is left, and a node with something to spare has not risen
+pub record State (N : Net) (p x e : List ℕ) : Type 0 where
+  pub wf : WellFormed N (length p)
+  pub x-size : length x ≡ arcs N
+  pub e-size : length e ≡ length p
+  pub p-in : Low (at p)
+  pub calm : (v : ℕ) → v < length p → at e v < need-zero → at p v ≤ flow-zero
+  pub slack : Slack N (at p) (at x)
+  pub needs-are : Need N (length p) (at x) (at e)
+  pub spare-high : (i : ℕ) → i < arcs N → HardHigh N i → at x i + surplus (length p) (at e) < high-none
+  pub spare-low : (i : ℕ) → i < arcs N → HardLow N i → surplus (length p) (at e) < at x i
+
+-- a search from s has reached t, a node with something to spare
+pub record Reached (N : Net) (s t : ℕ) (p x e order via room : List ℕ) : Type 0 where
+  pub state : State N p x e
+  pub order-size : length order ≡ length p
+  pub via-size : length via ≡ length p
+  pub room-size : length room ≡ length p
+  pub tree : Tree N (length p) s (at p) (at x) (at order) (at via) (at room)
+  pub root-fits : at room s + need-zero ≤ at e s
+  pub t-in : t < length p
+  pub t-reached : 0 < at order t
+  pub deficit : at e t < need-zero
+
+-- d can be moved from s to t
+pub record Amount (s t d : ℕ) (e room : ℕ → ℕ) : Type 0 where
+  pub some : 0 < d
+  pub room-fits : d ≤ room t
+  pub spare-fits : e t + d ≤ need-zero
+
+-- arc i can move d from its other end to v
+pub record Pushable (N : Net) (x : List ℕ) (i v d : ℕ) : Type 0 where
+  pub i-arc : i < arcs N
+  pub list-room : stride * i + stride ≤ length (N .list)
+  pub i-x : i < length x
+  pub i-in : i < most-arcs
+  pub up : tail N i ≡ v → at x i + d ≤ high-none
+  pub down : (tail N i ≡ v → ⊥) → (d ≤ at x i) × (at x i ≤ high-none)
+
+-- d is moved over arc i: by more flow where v is its tail, else by less
+pub record Pushed (N : Net) (x : List ℕ) (i v d : ℕ) (x′ : List ℕ) (u : ℕ) : Type 0 where
+  pub up : tail N i ≡ v → (u ≡ head N i) × (x′ ≡ set x i (at x i + d))
+  pub down : (tail N i ≡ v → ⊥) → (u ≡ tail N i) × (x′ ≡ set x i (at x i - d))
+
+-- d is moved from s to t: only the needs of the two are still to be counted
+pub record Walked (N : Net) (s t d : ℕ) (p e x₀ x : List ℕ) : Type 0 where
+  pub size-same : length x ≡ length x₀
+  pub slack : Slack N (at p) (at x)
+  pub steps : (i : ℕ) → (at x i ≤ at x₀ i + d) × (at x₀ i ≤ at x i + d)
+  pub moved : (y : ℕ) → y < length p → at e y + inflow N (arcs N) (at x) y + pick t y d ≡ need-zero + outflow N (arcs N) (at x) y + pick s y d

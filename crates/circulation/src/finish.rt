@@ -1,0 +1,65 @@
+// What the call leaves: potentials relative to ground's, and 0 in the room that was lent to work in.
+use crate::layout::NODE_STRIDE;
+use crate::layout::POTENTIAL_ZERO;
+use crate::nodes::POTENTIAL;
+use crate::nodes::clear;
+use crate::nodes::count_of;
+use crate::nodes::get;
+use crate::nodes::put;
+ghost use mathlib.Core.Path.{_≡_};
+ghost use Prim.Native.Nat.{ℕ, _≤_};
+ghost use Rattle.network.specs.Net.{at};
+ghost use Rattle.circulation.specs.inside.Finish.{Grounded, Settled, Zeroed};
+ghost use Rattle.circulation.specs.Nodes.{«node-stride», potentials, size};
+ghost use Rattle.circulation.specs.Limits.{«most-nodes»};
+
+// Potentials relative to ground's, and every other number 0.
+pub fn finish(nodes: &mut [u32], chains: &mut [u32])
+    requires { ⌜ Grounded (now nodes) ⌝ }
+    ensures { λ _. ⌜ Settled (now (nodes .entry)) (now (nodes .exit)) ⌝ }
+    ensures { λ _. ⌜ Zeroed node-stride (now (nodes .exit)) ⌝ }
+    ensures { λ _. ⌜ ((i : ℕ) → at (now (chains .exit)) i ≡ 0) ⌝ }
+{
+    settle(nodes);
+    clear_others(nodes);
+    erase(chains);
+}
+
+// Potentials relative to ground's, with POTENTIAL_ZERO added.
+fn settle(nodes: &mut [u32])
+    requires { ⌜ Grounded (now nodes) ⌝ }
+    ensures { λ _. ⌜ Settled (now (nodes .entry)) (now (nodes .exit)) ⌝ }
+{
+    let n = count_of(nodes);
+    let ground = get(nodes, n - 1, POTENTIAL);
+    let mut v = 0;
+    while v < n {
+        let p = get(nodes, v, POTENTIAL);
+        put(nodes, v, POTENTIAL, p + POTENTIAL_ZERO - ground);
+        v += 1;
+    }
+}
+
+// The other numbers of every node are 0.
+fn clear_others(nodes: &mut [u32])
+    requires { ⌜ size (now nodes) ≤ most-nodes ⌝ }
+    ensures { λ _. ⌜ Zeroed node-stride (now (nodes .exit)) ⌝ }
+    ensures { λ _. ⌜ potentials (now (nodes .exit)) ≡ potentials (now (nodes .entry)) ⌝ }
+{
+    let mut k = 1;
+    while k < NODE_STRIDE {
+        clear(nodes, k);
+        k += 1;
+    }
+}
+
+// Every number is 0.
+fn erase(chains: &mut [u32])
+    ensures { λ _. ⌜ ((i : ℕ) → at (now (chains .exit)) i ≡ 0) ⌝ }
+{
+    let mut i = 0;
+    while i < chains.len() {
+        chains[i] = 0;
+        i += 1;
+    }
+}

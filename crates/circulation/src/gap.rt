@@ -1,0 +1,116 @@
+// How far the reached nodes may rise until an arc is on its kink, and the arc of the least such step.
+use crate::arc::flow_of;
+use crate::arc::head_of;
+use crate::arc::high_of;
+use crate::arc::kink_of;
+use crate::arc::low_of;
+use crate::arc::tail_of;
+use crate::hints::next_hint;
+use crate::nodes::POTENTIAL;
+use crate::nodes::RANK;
+use crate::nodes::count_of;
+use crate::nodes::get;
+use network::layout::KINK_ZERO;
+ghost use Prim.Native.Nat.{_<_};
+ghost use lib.ListN.{length};
+ghost use Rattle.circulation.specs.inside.Steps.{CrossingAt, Nearest};
+ghost use Rattle.circulation.specs.inside.Search.{Distance, GapAt};
+ghost use Rattle.circulation.specs.inside.Slackness.{Ready};
+ghost use Rattle.network.specs.Net.{at, net};
+ghost use Rattle.circulation.specs.Nodes.{potentials, ranks};
+
+// A step that no arc has.
+pub const NEVER: usize = 4294967296;
+
+// How far from is from to, where less is less than more and from is not past to.
+fn distance(from: usize, to: usize, less: usize, more: usize) -> usize
+    requires { ⌜ (from < 4294967296) × (to < 4294967296) ⌝ }
+    ensures { λ r. ⌜ Distance from to less more r ⌝ }
+{
+    if to < from {
+        return NEVER;
+    }
+    if less < more {
+        return to - from;
+    }
+    NEVER
+}
+
+// How far the reached nodes may rise until arc i is on its kink; 2^32 where it does not cross or stays out.
+pub fn gap_at(arcs: &[u32], flows: &[u32], nodes: &[u32], i: usize) -> usize
+    requires { ⌜ Ready (net (now arcs) (length (now flows))) (potentials (now nodes)) (now flows) (ranks (now nodes)) ⌝ }
+    requires { ⌜ i < length (now flows) ⌝ }
+    ensures { λ r. ⌜ GapAt (net (now (arcs .entry)) (length (now (flows .entry)))) (at (potentials (now (nodes .entry)))) (at (now (flows .entry))) (at (ranks (now (nodes .entry)))) i r ⌝ }
+{
+    let t = tail_of(arcs, i);
+    let h = head_of(arcs, i);
+    let stands = get(nodes, h, POTENTIAL) + KINK_ZERO;
+    let asks = get(nodes, t, POTENTIAL) + kink_of(arcs, i);
+    let x = flow_of(flows, i);
+    let of_tail = get(nodes, t, RANK);
+    if get(nodes, h, RANK) > 0 {
+        if of_tail > 0 {
+            return NEVER;
+        }
+        return distance(stands, asks, x, high_of(arcs, i));
+    }
+    if of_tail == 0 {
+        return NEVER;
+    }
+    distance(asks, stands, low_of(arcs, i), x)
+}
+
+// The crossing arc of the least step.
+fn nearest(arcs: &[u32], flows: &[u32], nodes: &[u32]) -> usize
+    requires { ⌜ Ready (net (now arcs) (length (now flows))) (potentials (now nodes)) (now flows) (ranks (now nodes)) ⌝ }
+    requires { ⌜ CrossingAt (net (now arcs) (length (now flows))) (now flows) (now nodes) ⌝ }
+    ensures { λ r. ⌜ Nearest (net (now (arcs .entry)) (length (now (flows .entry)))) (length (now (flows .entry))) (at (potentials (now (nodes .entry)))) (at (now (flows .entry))) (at (ranks (now (nodes .entry)))) r ⌝ }
+{
+    let mut best = NEVER;
+    let mut arc = 0;
+    let mut i = 0;
+    while i < flows.len() {
+        let r = gap_at(arcs, flows, nodes, i);
+        if r < best {
+            best = r;
+            arc = i;
+        }
+        i += 1;
+    }
+    arc
+}
+
+// A crossing arc that is on its kink, where the hints offer one; else a number that is no arc.
+fn propose(arcs: &[u32], flows: &[u32], nodes: &[u32], chains: &mut [u32]) -> usize
+    requires { ⌜ Ready (net (now arcs) (length (now flows))) (potentials (now nodes)) (now flows) (ranks (now nodes)) ⌝ }
+    ensures { λ r. ⌜ (r < length (now (flows .entry)) → GapAt (net (now (arcs .entry)) (length (now (flows .entry)))) (at (potentials (now (nodes .entry)))) (at (now (flows .entry))) (at (ranks (now (nodes .entry)))) r 0) ⌝ }
+{
+    let n = count_of(nodes);
+    let mut left: usize = 65536;
+    while left > 0 {
+        let i = next_hint(chains, n);
+        if i > NEVER {
+            return flows.len();
+        }
+        if i < flows.len() {
+            if gap_at(arcs, flows, nodes, i) == 0 {
+                return i;
+            }
+        }
+        left -= 1;
+    }
+    flows.len()
+}
+
+// The crossing arc of the least step: one that is proposed, or found by a scan.
+pub fn choose(arcs: &[u32], flows: &[u32], nodes: &[u32], chains: &mut [u32]) -> usize
+    requires { ⌜ Ready (net (now arcs) (length (now flows))) (potentials (now nodes)) (now flows) (ranks (now nodes)) ⌝ }
+    requires { ⌜ CrossingAt (net (now arcs) (length (now flows))) (now flows) (now nodes) ⌝ }
+    ensures { λ r. ⌜ Nearest (net (now (arcs .entry)) (length (now (flows .entry)))) (length (now (flows .entry))) (at (potentials (now (nodes .entry)))) (at (now (flows .entry))) (at (ranks (now (nodes .entry)))) r ⌝ }
+{
+    let i = propose(arcs, flows, nodes, chains);
+    if i < flows.len() {
+        return i;
+    }
+    nearest(arcs, flows, nodes)
+}

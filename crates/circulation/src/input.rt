@@ -1,0 +1,226 @@
+// What the call takes.
+use crate::arc::head_of;
+use crate::arc::high_of;
+use crate::arc::kink_of;
+use crate::arc::low_of;
+use crate::arc::tail_of;
+use crate::limits::HIGH_MOST;
+use crate::limits::LOW_LEAST;
+use crate::limits::MAX_ARCS;
+use crate::limits::MAX_KINK;
+use crate::limits::MAX_NODES;
+use crate::limits::NO_FLOW;
+use crate::limits::UNLIMITED;
+use crate::nodes::POTENTIAL;
+use crate::nodes::count_of;
+use crate::nodes::get;
+use crate::start::first_flow;
+use network::layout::STRIDE;
+ghost use mathlib.Core.Path.{_≡_};
+ghost use Prim.Native.Nat.{_+_, _*_, _≤_, _<_};
+ghost use lib.ListN.{length};
+ghost use Rattle.circulation.specs.Input.{ArcIn, Feasible, First, HangsBy, HighIn, LowIn, Rooted, Valid, WellFormed};
+ghost use Rattle.circulation.specs.inside.Steps.{Hanger};
+ghost use Rattle.circulation.specs.inside.Slackness.{Small};
+ghost use Rattle.network.specs.Tested.{Tested};
+ghost use Rattle.network.specs.Net.{at, net};
+ghost use Rattle.circulation.specs.Limits.{«most-arcs», «most-nodes»};
+ghost use Rattle.circulation.specs.Nodes.{potentials, size};
+ghost use Rattle.network.specs.Packed.{stride};
+
+// Whether the whole input is one that the method takes.
+pub fn valid(arcs: &[u32], nodes: &[u32], m: usize) -> bool
+    ensures { λ r. ⌜ Tested (Valid (net (now (arcs .entry)) m) (size (now (nodes .entry))) (potentials (now (nodes .entry)))) r ⌝ }
+{
+    let n = count_of(nodes);
+    if !well_formed(arcs, m, n) {
+        return false;
+    }
+    if !low_start(nodes, n) {
+        return false;
+    }
+    if !rooted(arcs, n, m) {
+        return false;
+    }
+    meets(arcs, nodes, m)
+}
+
+// Whether the network is one.
+fn well_formed(arcs: &[u32], m: usize, n: usize) -> bool
+    ensures { λ r. ⌜ Tested (WellFormed (net (now (arcs .entry)) m) n) r ⌝ }
+{
+    if n == 0 {
+        return false;
+    }
+    if n > MAX_NODES {
+        return false;
+    }
+    if m > MAX_ARCS {
+        return false;
+    }
+    if arcs.len() < STRIDE * m {
+        return false;
+    }
+    let mut i = 0;
+    while i < m {
+        if !arc_ok(arcs, i, n, m) {
+            return false;
+        }
+        i += 1;
+    }
+    true
+}
+
+// Whether the numbers of arc i are good, at n nodes.
+fn arc_ok(arcs: &[u32], i: usize, n: usize, m: usize) -> bool
+    requires { ⌜ (stride * i + stride ≤ length (now arcs)) × (i < most-arcs) ⌝ }
+    ensures { λ r. ⌜ Tested (ArcIn (net (now (arcs .entry)) m) n i) r ⌝ }
+{
+    if tail_of(arcs, i) >= n {
+        return false;
+    }
+    if head_of(arcs, i) >= n {
+        return false;
+    }
+    if kink_of(arcs, i) > MAX_KINK {
+        return false;
+    }
+    if !low_ok(low_of(arcs, i)) {
+        return false;
+    }
+    high_ok(high_of(arcs, i))
+}
+
+// Whether l is the low limit of an arc.
+fn low_ok(l: usize) -> bool
+    ensures { λ r. ⌜ Tested (LowIn l) r ⌝ }
+{
+    if l > NO_FLOW {
+        return false;
+    }
+    if l == 0 {
+        return true;
+    }
+    if l < LOW_LEAST {
+        return false;
+    }
+    true
+}
+
+// Whether h is the high limit of an arc.
+fn high_ok(h: usize) -> bool
+    ensures { λ r. ⌜ Tested (HighIn h) r ⌝ }
+{
+    if h < NO_FLOW {
+        return false;
+    }
+    if h == UNLIMITED {
+        return true;
+    }
+    if h > HIGH_MOST {
+        return false;
+    }
+    true
+}
+
+// Whether the potentials to start from are small.
+fn low_start(nodes: &[u32], n: usize) -> bool
+    requires { ⌜ (n ≡ size (now nodes)) × (n ≤ most-nodes) ⌝ }
+    ensures { λ r. ⌜ Tested (First (at (potentials (now (nodes .entry))))) r ⌝ }
+{
+    let mut v = 0;
+    while v < n {
+        if get(nodes, v, POTENTIAL) > NO_FLOW {
+            return false;
+        }
+        v += 1;
+    }
+    true
+}
+
+// Whether no arc is on a forbidden side.
+fn meets(arcs: &[u32], nodes: &[u32], m: usize) -> bool
+    requires { ⌜ WellFormed (net (now arcs) m) (size (now nodes)) ⌝ }
+    requires { ⌜ Small (at (potentials (now nodes))) ⌝ }
+    ensures { λ r. ⌜ Tested (Feasible (net (now (arcs .entry)) m) (at (potentials (now (nodes .entry))))) r ⌝ }
+{
+    let mut i = 0;
+    while i < m {
+        let y = first_flow(arcs, nodes, i, m);
+        if y == 0 {
+            return false;
+        }
+        if y == UNLIMITED {
+            return false;
+        }
+        i += 1;
+    }
+    true
+}
+
+// Whether every node but the ground hangs.
+fn rooted(arcs: &[u32], n: usize, m: usize) -> bool
+    requires { ⌜ (stride * m ≤ length (now arcs)) × (m ≤ most-arcs) × (0 < n) × (n ≤ most-nodes) ⌝ }
+    ensures { λ r. ⌜ Tested (Rooted (net (now (arcs .entry)) m) n) r ⌝ }
+{
+    let g = n - 1;
+    let mut last = 0;
+    let mut v = 0;
+    while v < g {
+        let i = any_hanger(arcs, v, g, last, m);
+        if i >= m {
+            return false;
+        }
+        last = i;
+        v += 1;
+    }
+    true
+}
+
+// An arc of m by which v hangs, looked for from arc first on and then from the start; m where none is.
+fn any_hanger(arcs: &[u32], v: usize, g: usize, first: usize, m: usize) -> usize
+    requires { ⌜ (stride * m ≤ length (now arcs)) × (m ≤ most-arcs) ⌝ }
+    ensures { λ r. ⌜ Hanger (now (arcs .entry)) v g 0 m r ⌝ }
+{
+    let i = hanger(arcs, v, g, first, m);
+    if i < m {
+        return i;
+    }
+    hanger(arcs, v, g, 0, m)
+}
+
+// The first arc of m by which v hangs, from arc first on; m where none is.
+fn hanger(arcs: &[u32], v: usize, g: usize, first: usize, m: usize) -> usize
+    requires { ⌜ (stride * m ≤ length (now arcs)) × (m ≤ most-arcs) ⌝ }
+    ensures { λ r. ⌜ Hanger (now (arcs .entry)) v g first m r ⌝ }
+{
+    let mut i = first;
+    while i < m {
+        if hangs(arcs, i, v, g) {
+            return i;
+        }
+        i += 1;
+    }
+    m
+}
+
+// Whether arc i is unlimited, and goes from v to the ground g or to a node before v.
+fn hangs(arcs: &[u32], i: usize, v: usize, g: usize) -> bool
+    requires { ⌜ (stride * i + stride ≤ length (now arcs)) × (i < most-arcs) ⌝ }
+    ensures { λ r. ⌜ Tested (HangsBy (now (arcs .entry)) g v i) r ⌝ }
+{
+    if tail_of(arcs, i) != v {
+        return false;
+    }
+    if high_of(arcs, i) != UNLIMITED {
+        return false;
+    }
+    let h = head_of(arcs, i);
+    if h == g {
+        return true;
+    }
+    if h < v {
+        return true;
+    }
+    false
+}

@@ -1,0 +1,24 @@
+// The limits of what is taken, and the limits and flows of arcs as 64-bit numbers.
+use network::layout::FLOW_ZERO;
+use network::layout::HIGH_NONE;
+
+// So many nodes with ground are taken.
+pub const MAX_NODES: usize = 4096;
+
+// So many arcs are taken.
+pub const MAX_ARCS: usize = 8192;
+
+// A kink as it is stored is at most this: 65,536, with 65,536 added.
+pub const MAX_KINK: usize = 131072;
+
+// A low limit as it is stored is none or at least this: -1,024, with 2^28 added.
+pub const LOW_LEAST: usize = 268434432;
+
+// A high limit as it is stored is none or at most this: 1,024, with 2^28 added.
+pub const HIGH_MOST: usize = 268436480;
+
+// The flow 0 as it is stored.
+pub const NO_FLOW: usize = FLOW_ZERO as usize;
+
+// The high limit that is none.
+pub const UNLIMITED: usize = HIGH_NONE as usize;

@@ -1,0 +1,73 @@
+// The numbers of a node.
+use crate::layout::NODE_STRIDE;
+ghost use mathlib.Core.Path.{_≡_};
+ghost use Prim.Native.Nat.{ℕ, _≤_, _<_};
+ghost use Rattle.circulation.specs.inside.Stores.{Apart, Stored};
+ghost use Rattle.network.specs.Net.{at};
+ghost use Rattle.circulation.specs.Nodes.{column, size};
+ghost use Rattle.circulation.specs.Limits.{«most-nodes»};
+
+// What is added to a need: 2^30.
+pub const NEED_ZERO: usize = 1073741824;
+
+// In a node: its potential.
+pub const POTENTIAL: usize = 0;
+
+// In a node: how much more flows out of it than in, with NEED_ZERO added.
+pub const NEED: usize = 1;
+
+// In a node: its place in the order of reaching; 0 where it is not reached.
+pub const RANK: usize = 2;
+
+// In a node: the arc over which it was reached.
+pub const PARENT: usize = 3;
+
+// In a node: how much can be moved to it from the source.
+pub const ROOM: usize = 4;
+
+// How many nodes there are.
+pub fn count_of(nodes: &[u32]) -> usize
+    ensures { λ r. ⌜ r ≡ size (now (nodes .entry)) ⌝ }
+{
+    nodes.len() / NODE_STRIDE
+}
+
+// Number k of node v.
+pub fn get(nodes: &[u32], v: usize, k: usize) -> usize
+    requires { ⌜ (v < size (now nodes)) × (v < most-nodes) × (k < 6) ⌝ }
+    ensures { λ r. ⌜ r ≡ at (column k (now (nodes .entry))) v ⌝ }
+{
+    nodes[NODE_STRIDE * v + k] as usize
+}
+
+// Stores number k of node v.
+pub fn put(nodes: &mut [u32], v: usize, k: usize, a: usize)
+    requires { ⌜ (v < size (now nodes)) × (v < most-nodes) × (k < 6) × (a < 4294967296) ⌝ }
+    ensures { λ _. ⌜ Stored k v a (now (nodes .entry)) (now (nodes .exit)) ⌝ }
+{
+    nodes[NODE_STRIDE * v + k] = a as u32;
+}
+
+// Number k of every node is 0.
+pub fn clear(nodes: &mut [u32], k: usize)
+    requires { ⌜ (size (now nodes) ≤ most-nodes) × (k < 6) ⌝ }
+    ensures { λ _. ⌜ ((v : ℕ) → at (column k (now (nodes .exit))) v ≡ 0) ⌝ }
+    ensures { λ _. ⌜ Apart k (now (nodes .entry)) (now (nodes .exit)) ⌝ }
+{
+    let n = count_of(nodes);
+    let mut v = 0;
+    while v < n {
+        put(nodes, v, k, 0);
+        v += 1;
+    }
+}
+
+// The lesser number.
+pub fn least(a: usize, b: usize) -> usize
+    ensures { λ r. ⌜ (r ≤ a) × (r ≤ b) × (0 < a → 0 < b → 0 < r) ⌝ }
+{
+    if a < b {
+        return a;
+    }
+    b
+}

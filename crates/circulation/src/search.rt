@@ -1,0 +1,158 @@
+// Searches: from a node that needs something to one that has something to spare, and from ground to all.
+use crate::Found;
+use crate::arc::flow_of;
+use crate::arc::head_of;
+use crate::arc::high_of;
+use crate::arc::low_of;
+use crate::arc::tail_of;
+use crate::gap::choose;
+use crate::gap::gap_at;
+use crate::hints::opened;
+use crate::hints::restart;
+use crate::nodes::NEED;
+use crate::nodes::NEED_ZERO;
+use crate::nodes::PARENT;
+use crate::nodes::RANK;
+use crate::nodes::ROOM;
+use crate::nodes::clear;
+use crate::nodes::count_of;
+use crate::nodes::get;
+use crate::nodes::least;
+use crate::nodes::put;
+use crate::raise::raise_reached;
+ghost use mathlib.Core.Path.{_≡_};
+ghost use Prim.Native.Nat.{ℕ, _+_, _*_, _≤_, _<_};
+ghost use lib.ListN.{length};
+ghost use Rattle.circulation.specs.inside.Stores.{Begun, Reaches};
+ghost use Rattle.circulation.specs.inside.Steps.{CrossingAt, Extended, Flooded, GrownAt, Searches, Source, StateAt};
+ghost use Rattle.circulation.specs.inside.Search.{RoomOver};
+ghost use Rattle.circulation.specs.Input.{Rooted, WellFormed};
+ghost use Rattle.network.specs.Net.{at, high, low, net};
+ghost use Rattle.network.specs.Packed.{«head-at», stride, «tail-at»};
+ghost use Rattle.circulation.specs.Limits.{«most-arcs», «most-nodes»};
+ghost use Rattle.circulation.specs.Nodes.{«need-zero», needs, ranks, rooms, size};
+
+// A node with less inflow than outflow, the last one.
+pub fn source(nodes: &[u32]) -> Found
+    requires { ⌜ size (now nodes) ≤ most-nodes ⌝ }
+    ensures { λ r. ⌜ Source (size (now (nodes .entry))) (at (needs (now (nodes .entry)))) r ⌝ }
+{
+    let mut v = count_of(nodes);
+    while v > 0 {
+        let u = v - 1;
+        if get(nodes, u, NEED) > NEED_ZERO {
+            return Found::At(u);
+        }
+        v = u;
+    }
+    Found::Nothing
+}
+
+// Reaches nodes from s on until one has something to spare.
+pub fn search(arcs: &[u32], flows: &[u32], nodes: &mut [u32], chains: &mut [u32], s: usize) -> usize
+    requires { ⌜ StateAt (net (now arcs) (length (now flows))) (now flows) (now nodes) ⌝ }
+    requires { ⌜ (s < size (now nodes)) × (need-zero < at (needs (now nodes)) s) ⌝ }
+    ensures { λ t. ⌜ Searches (net (now (arcs .entry)) (length (now (flows .entry)))) s (now (flows .entry)) (now (nodes .entry)) (now (nodes .exit)) t ⌝ }
+{
+    let room = get(nodes, s, NEED) - NEED_ZERO;
+    restart(chains, count_of(nodes), s);
+    begin(nodes, s, room);
+    let mut count = 1;
+    loop {
+        let v = extend(arcs, flows, nodes, chains, s, count);
+        if get(nodes, v, NEED) < NEED_ZERO {
+            return v;
+        }
+        count += 1;
+    }
+}
+
+// Reaches every node from the ground.
+pub fn flood(arcs: &[u32], flows: &[u32], nodes: &mut [u32], chains: &mut [u32])
+    requires { ⌜ StateAt (net (now arcs) (length (now flows))) (now flows) (now nodes) ⌝ }
+    requires { ⌜ Rooted (net (now arcs) (length (now flows))) (size (now nodes)) ⌝ }
+    ensures { λ _. ⌜ Flooded (net (now (arcs .entry)) (length (now (flows .entry)))) (size (now (nodes .entry))) (now (flows .entry)) (now (nodes .exit)) ⌝ }
+{
+    let n = count_of(nodes);
+    let g = n - 1;
+    restart(chains, n, g);
+    begin(nodes, g, 1);
+    let mut count = 1;
+    while count < n {
+        extend(arcs, flows, nodes, chains, g, count);
+        count += 1;
+    }
+}
+
+// Only s is reached.
+fn begin(nodes: &mut [u32], s: usize, room: usize)
+    requires { ⌜ (size (now nodes) ≤ most-nodes) × (s < size (now nodes)) × (room < 4294967296) ⌝ }
+    ensures { λ _. ⌜ Begun s room (now (nodes .entry)) (now (nodes .exit)) ⌝ }
+{
+    clear(nodes, RANK);
+    put(nodes, s, RANK, 1);
+    put(nodes, s, ROOM, room);
+}
+
+// Reaches one node more, over the arc of the least step, and moves the potentials so that this arc is on its kink.
+fn extend(
+    arcs: &[u32],
+    flows: &[u32],
+    nodes: &mut [u32],
+    chains: &mut [u32],
+    s: usize,
+    count: usize,
+) -> usize
+    requires { ⌜ GrownAt (net (now arcs) (length (now flows))) s count (now flows) (now nodes) ⌝ }
+    requires { ⌜ CrossingAt (net (now arcs) (length (now flows))) (now flows) (now nodes) ⌝ }
+    ensures { λ v. ⌜ Extended (net (now (arcs .entry)) (length (now (flows .entry)))) s count (now (flows .entry)) (now (nodes .entry)) (now (nodes .exit)) v ⌝ }
+{
+    let i = choose(arcs, flows, nodes, chains);
+    let d = gap_at(arcs, flows, nodes, i);
+    raise_reached(nodes, d);
+    let v = far(arcs, nodes, i);
+    let room = room_over(arcs, flows, nodes, i, v);
+    reach(nodes, v, count + 1, i, room);
+    opened(chains, count_of(nodes), v);
+    v
+}
+
+// The end of arc i that is not reached, where the other is.
+fn far(arcs: &[u32], nodes: &[u32], i: usize) -> usize
+    requires { ⌜ (stride * i + stride ≤ length (now arcs)) × (i < most-arcs) × (at (now arcs) (stride * i + head-at) < size (now nodes)) × (size (now nodes) ≤ most-nodes) ⌝ }
+    ensures { λ r. ⌜ (at (ranks (now (nodes .entry))) (at (now (arcs .entry)) (stride * i + head-at)) ≡ 0 → r ≡ at (now (arcs .entry)) (stride * i + head-at)) ⌝ }
+    ensures { λ r. ⌜ (0 < at (ranks (now (nodes .entry))) (at (now (arcs .entry)) (stride * i + head-at)) → r ≡ at (now (arcs .entry)) (stride * i + tail-at)) ⌝ }
+{
+    let h = head_of(arcs, i);
+    if get(nodes, h, RANK) == 0 {
+        return h;
+    }
+    tail_of(arcs, i)
+}
+
+// What can be moved over arc i to its end v.
+fn room_over(arcs: &[u32], flows: &[u32], nodes: &[u32], i: usize, v: usize) -> usize
+    requires { ⌜ WellFormed (net (now arcs) (length (now flows))) (size (now nodes)) ⌝ }
+    requires { ⌜ i < length (now flows) ⌝ }
+    requires { ⌜ (low (net (now arcs) (length (now flows))) i ≤ at (now flows) i) × (at (now flows) i ≤ high (net (now arcs) (length (now flows))) i) ⌝ }
+    ensures { λ r. ⌜ RoomOver (net (now (arcs .entry)) (length (now (flows .entry)))) (at (now (flows .entry))) (at (rooms (now (nodes .entry)))) i v r ⌝ }
+    ensures { λ r. ⌜ r < 4294967296 ⌝ }
+{
+    let t = tail_of(arcs, i);
+    let x = flow_of(flows, i);
+    if t == v {
+        let h = head_of(arcs, i);
+        return least(high_of(arcs, i) - x, get(nodes, h, ROOM));
+    }
+    least(x - low_of(arcs, i), get(nodes, t, ROOM))
+}
+
+// Node v is reached.
+fn reach(nodes: &mut [u32], v: usize, rank: usize, parent: usize, room: usize)
+    requires { ⌜ (v < size (now nodes)) × (v < most-nodes) × (rank < 4294967296) × (parent < 4294967296) × (room < 4294967296) ⌝ }
+    ensures { λ _. ⌜ Reaches v rank parent room (now (nodes .entry)) (now (nodes .exit)) ⌝ }
+{
+    put(nodes, v, RANK, rank);
+    put(nodes, v, PARENT, parent);
+    put(nodes, v, ROOM, room);
+}

@@ -1,0 +1,112 @@
+// The flows to start with, and what each node needs then.
+use crate::arc::flow_of;
+use crate::arc::head_of;
+use crate::arc::high_of;
+use crate::arc::kink_of;
+use crate::arc::low_of;
+use crate::arc::set_flow;
+use crate::arc::tail_of;
+use crate::limits::NO_FLOW;
+use crate::nodes::NEED;
+use crate::nodes::NEED_ZERO;
+use crate::nodes::POTENTIAL;
+use crate::nodes::count_of;
+use crate::nodes::get;
+use crate::nodes::put;
+use network::layout::KINK_ZERO;
+ghost use mathlib.Core.Path.{_≡_};
+ghost use Prim.Native.Nat.{ℕ, _+_, _≤_, _<_};
+ghost use lib.ListN.{length};
+ghost use Rattle.circulation.specs.inside.Stores.{Apart};
+ghost use Rattle.circulation.specs.inside.Slackness.{Filled, FilledAt, Small, inflow, outflow, pick};
+ghost use Rattle.circulation.specs.Input.{Valid, WellFormed};
+ghost use Rattle.network.specs.Net.{asks, at, high, low, net, stands};
+ghost use Rattle.circulation.specs.Limits.{«high-most», «low-least», «most-nodes»};
+ghost use Rattle.circulation.specs.Nodes.{«need-zero», needs, potentials, size};
+
+// The flows to start with.
+pub fn saturate(arcs: &[u32], flows: &mut [u32], nodes: &[u32])
+    requires { ⌜ Valid (net (now arcs) (length (now flows))) (size (now nodes)) (potentials (now nodes)) ⌝ }
+    ensures { λ _. ⌜ ((i : ℕ) → i < length (now (flows .entry)) → FilledAt (net (now (arcs .entry)) (length (now (flows .entry)))) (at (potentials (now (nodes .entry)))) i (at (now (flows .exit)) i)) ⌝ }
+{
+    let m = flows.len();
+    let mut i = 0;
+    while i < m {
+        let y = first_flow(arcs, nodes, i, m);
+        set_flow(flows, i, y);
+        i += 1;
+    }
+}
+
+// What arc i's flow starts with.
+pub fn first_flow(arcs: &[u32], nodes: &[u32], i: usize, m: usize) -> usize
+    requires { ⌜ WellFormed (net (now arcs) m) (size (now nodes)) ⌝ }
+    requires { ⌜ Small (at (potentials (now nodes))) ⌝ }
+    requires { ⌜ i < m ⌝ }
+    ensures { λ r. ⌜ FilledAt (net (now (arcs .entry)) m) (at (potentials (now (nodes .entry)))) i r ⌝ }
+{
+    let t = tail_of(arcs, i);
+    let h = head_of(arcs, i);
+    let k = kink_of(arcs, i);
+    let stands = get(nodes, h, POTENTIAL) + KINK_ZERO;
+    let asks = get(nodes, t, POTENTIAL) + k;
+    filled(stands, asks, low_of(arcs, i), high_of(arcs, i))
+}
+
+// The flow to start from, by where the head stands.
+fn filled(stands: usize, asks: usize, low: usize, high: usize) -> usize
+    ensures { λ r. ⌜ Filled stands asks low high r ⌝ }
+{
+    if stands < asks {
+        return low;
+    }
+    if asks < stands {
+        return high;
+    }
+    NO_FLOW
+}
+
+// The need of each node.
+pub fn count_need(arcs: &[u32], flows: &[u32], nodes: &mut [u32])
+    requires { ⌜ WellFormed (net (now arcs) (length (now flows))) (size (now nodes)) ⌝ }
+    requires { ⌜ ((i : ℕ) → i < length (now flows) → (low-least ≤ at (now flows) i) × (at (now flows) i ≤ high-most)) ⌝ }
+    ensures { λ _. ⌜ ((v : ℕ) → v < size (now (nodes .entry)) → at (needs (now (nodes .exit))) v + inflow (net (now (arcs .entry)) (length (now (flows .entry)))) (length (now (flows .entry))) (at (now (flows .entry))) v ≡ need-zero + outflow (net (now (arcs .entry)) (length (now (flows .entry)))) (length (now (flows .entry))) (at (now (flows .entry))) v) ⌝ }
+    ensures { λ _. ⌜ Apart 1 (now (nodes .entry)) (now (nodes .exit)) ⌝ }
+{
+    level(nodes);
+    let mut i = 0;
+    while i < flows.len() {
+        let t = tail_of(arcs, i);
+        let h = head_of(arcs, i);
+        charge(nodes, t, h, flow_of(flows, i));
+        charge(nodes, h, t, NO_FLOW);
+        i += 1;
+    }
+}
+
+// The need of a node at which nothing flows.
+fn level(nodes: &mut [u32])
+    requires { ⌜ size (now nodes) ≤ most-nodes ⌝ }
+    ensures { λ _. ⌜ ((v : ℕ) → v < size (now (nodes .entry)) → at (needs (now (nodes .exit))) v ≡ need-zero) ⌝ }
+    ensures { λ _. ⌜ Apart 1 (now (nodes .entry)) (now (nodes .exit)) ⌝ }
+{
+    let n = count_of(nodes);
+    let mut v = 0;
+    while v < n {
+        put(nodes, v, NEED, NEED_ZERO);
+        v += 1;
+    }
+}
+
+// Counts a units that flow out of t and into h.
+pub fn charge(nodes: &mut [u32], t: usize, h: usize, a: usize)
+    requires { ⌜ (h < size (now nodes)) × (t < size (now nodes)) × (size (now nodes) ≤ most-nodes) ⌝ }
+    requires { ⌜ (at (needs (now nodes)) t + a < 4294967296) × (a ≤ at (needs (now nodes)) h) ⌝ }
+    ensures { λ _. ⌜ ((v : ℕ) → at (needs (now (nodes .exit))) v + pick h v a ≡ at (needs (now (nodes .entry))) v + pick t v a) ⌝ }
+    ensures { λ _. ⌜ Apart 1 (now (nodes .entry)) (now (nodes .exit)) ⌝ }
+{
+    let more = get(nodes, t, NEED) + a;
+    put(nodes, t, NEED, more);
+    let less = get(nodes, h, NEED) - a;
+    put(nodes, h, NEED, less);
+}

@@ -1,0 +1,24 @@
+-- `difference::raise::raise_arc` meets its contract. Two steps put together.
+use Rattle.difference.proofs.laws.Passes.{arc-raised}
+use borrow.Author.Needs.{needs}
+use Rattle.difference.proofs.raise.raise_arc.Statement.{statement}
+use Rattle.difference.proofs.raise.raise_arc.Tie as tie
+
+raise-tail-requires : tie.Need-raise-tail-requires
+raise-tail-requires c κs = search needs
+
+raise-head-requires : tie.Need-raise-head-requires
+raise-head-requires c κs = search needs
+
+both-requires : tie.Need-both-requires
+both-requires c κs = search needs
+
+same-length : tie.Need-same-length
+same-length c = search needs
+
+returns : tie.Need-returns
+returns c = arc-raised (c .before .before .before .before .before .before .before .before .before .before .before .args .i) (c .before .before .before .before .before .before .before .raise-tail .result) (c .before .before .before .raise-head .result) (c .both .result) (c .before .before .before .before .before .before .before .raise-tail .ensures) (c .before .before .before .raise-head .ensures) (c .both .ensures)
+
+pub raise-arc-spec : {M : Type 1} → statement M
+raise-arc-spec =
+    tie.close (tie.spec raise-tail-requires raise-head-requires both-requires same-length returns)

@@ -1,0 +1,47 @@
+-- `difference::raise::raise_tail` meets its contract. The arc's constraint is asked of every solution, so one step of raising keeps what is known.
+use Rattle.difference.proofs.laws.Passes.{tail-relaxing, tail-raised}
+use native.Mathlib.Omega.{arith}
+use borrow.Author.Needs.{needs}
+use Rattle.difference.proofs.raise.raise_tail.Statement.{statement}
+use Rattle.difference.proofs.raise.raise_tail.Tie as tie
+
+part-of-requires : tie.Need-part-of-requires
+part-of-requires c κs = search needs
+
+cast-if1 : tie.Need-cast-if1
+cast-if1 c = search needs
+
+returns : tie.Need-returns
+returns c = search needs
+
+part-of-requires-2 : tie.Need-part-of-requires-2
+part-of-requires-2 c κs = search needs
+
+part-of-requires-3 : tie.Need-part-of-requires-3
+part-of-requires-3 c κs = search needs
+
+part-of-requires-4 : tie.Need-part-of-requires-4
+part-of-requires-4 c κs = search needs
+
+relax-requires : tie.Need-relax-requires
+relax-requires c κs = tail-relaxing (c .before .before .before .before .before .before .before .before .pre .0) (c .before .before .before .before .before .before .before .before .pre .1) (c .before .before .before .part-of2 .result) (c .before .before .part-of3 .result) (c .before .part-of4 .result) (c .before .before .before .part-of2 .ensures .0) (c .before .before .part-of3 .ensures .0) (c .before .part-of4 .ensures .0)
+
+same-length : tie.Need-same-length
+same-length c = search needs
+
+returns-2 : tie.Need-returns-2
+returns-2 c = tail-raised (c .before .before .before .before .before .before .before .before .before .before .before .pre .0) (c .before .before .before .before .before .before .before .before .before .before .before .pre .1) (c .before .before .before .before .before .before .part-of2 .result) (c .before .before .before .before .before .part-of3 .result) (c .before .before .before .before .part-of4 .result) (c .before .before .before .before .before .before .part-of2 .ensures .0) (c .before .before .before .before .before .part-of3 .ensures .0) (c .before .before .before .before .part-of4 .ensures .0) (omega (arith, c .before .before .before .before .before .before .before .before .part-of .ensures .0, c .before .before .before .before .before .before .before .if1 .left)) (c .before .before .relax .last .0) (c .before .before .relax .result) (c .before .before .relax .ensures)
+
+pub raise-tail-spec : {M : Type 1} → statement M
+raise-tail-spec =
+    tie.close
+    (tie.spec
+    part-of-requires
+    cast-if1
+    returns
+    part-of-requires-2
+    part-of-requires-3
+    part-of-requires-4
+    relax-requires
+    same-length
+    returns-2)

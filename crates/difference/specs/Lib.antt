@@ -1,0 +1,5 @@
+pub mod Limits
+pub mod Input
+pub mod Solutions
+pub mod inside
+pub mod laws

@@ -1,0 +1,45 @@
+-- What the call answers: the lowest potentials of the network that the packed arcs are, or that it has none.
+use Prim.Native.Nat.{ℕ, _-_, _*_, _≤_, _<_}
+use mathlib.Core.Path.{_≡_}
+use mathlib.Core.List.{List}
+use lib.ListN.{length, take}
+use Rattle.network.specs.Network.{Network, Feasible, integers}
+use Rattle.network.specs.Net.{at, Net, meant}
+use Rattle.difference.specs.Limits.{kink-size}
+use Rattle.difference.specs.Input.{Taken}
+use Rattle.difference.specs.declared.Answer.{Answer}
+use Rattle.difference.specs.declared.Answer.the-variants.{Solved, NoSolution, Malformed}
+
+-- the values of n nodes as potentials: without ground's, which is 0
+abbrev pub potentials : ℕ → List ℕ → List ℕ
+potentials n values = take (n - 1) values
+
+-- feasible potentials, and each at most that of any others that are not negative
+pub record Lowest (M : Network) (p : List ℕ) : Type 0 where
+  pub feasible : Feasible M (integers p)
+  pub lowest : (q : List ℕ) → Feasible M (integers q) → (u : ℕ) → at p u ≤ at q u
+
+-- no feasible potentials that are not negative
+abbrev pub NoneFeasible : Network → Type 0
+NoneFeasible M = (q : List ℕ) → Feasible M (integers q) → ⊥
+
+-- the values behind the first n are as they were
+pub record RestKept (n : ℕ) (old new : List ℕ) : Type 0 where
+  pub size : length new ≡ length old
+  pub rest : (u : ℕ) → n ≤ u → at new u ≡ at old u
+
+-- the first n values are the lowest potentials of the network, and ground's 0
+pub record Solves (N : Net) (n : ℕ) (values : List ℕ) : Type 0 where
+  pub ground : at values (n - 1) ≡ 0
+  pub small : (u : ℕ) → u < n → at values u ≤ n * kink-size
+  pub lowest : Lowest (meant N n) (potentials n values)
+
+-- the first n values are 0
+pub record Cleared (n : ℕ) (values : List ℕ) : Type 0 where
+  pub zero : (u : ℕ) → u < n → at values u ≡ 0
+
+-- what each answer says, with the values before and after
+abbrev pub Means : Net → ℕ → List ℕ → List ℕ → Answer → Type 0
+Means N n old new Solved = Taken N n old × RestKept n old new × Solves N n new
+Means N n old new NoSolution = Taken N n old × RestKept n old new × Cleared n new × NoneFeasible (meant N n)
+Means N n old new Malformed = (Taken N n old → ⊥) × (new ≡ old)

@@ -1,0 +1,86 @@
+// Passes over all arcs until nothing changes.
+use crate::Found;
+use crate::raise::both;
+use crate::raise::raise_arc;
+ghost use mathlib.Core.Path.{_≡_};
+ghost use Prim.Native.Nat.{ℕ, _<_};
+ghost use lib.ListN.{length};
+ghost use Rattle.network.specs.Net.{at};
+ghost use Rattle.network.specs.Net.{net};
+ghost use Rattle.difference.specs.Input.{WellFormed};
+ghost use Rattle.difference.specs.inside.Constraints.{AllMet, Ready};
+ghost use Rattle.difference.specs.inside.Steps.{Stepped, turn, Swept, Ran};
+
+// The arc that a pass comes to after i others.
+fn turned(count: usize, i: usize, back: bool) -> usize
+    requires { ⌜ i < count ⌝ }
+    ensures { λ r. ⌜ (r ≡ turn count i back) × (r < count) ⌝ }
+{
+    if back {
+        return count - 1 - i;
+    }
+    i
+}
+
+// One pass over the arcs, forward or back.
+fn pass(arcs: &[u32], count: usize, back: bool, values: &mut [u32]) -> Found
+    requires { ⌜ Ready (net (now arcs) count) (now values) ⌝ }
+    ensures { λ r. ⌜ Stepped (AllMet (net (now (arcs .entry)) count)) (net (now (arcs .entry)) count) (now (values .entry)) (now (values .exit)) r ⌝ }
+{
+    let mut found = Found::Same;
+    let mut i = 0;
+    while i < count {
+        let arc = turned(count, i, back);
+        let step = raise_arc(arcs, count, arc, values);
+        found = both(found, step);
+        i += 1;
+    }
+    found
+}
+
+// Every value is 0.
+fn clear(values: &mut [u32])
+    ensures { λ _. ⌜ ((u : ℕ) → at (now (values .exit)) u ≡ 0) ⌝ }
+{
+    let mut u = 0;
+    while u < values.len() {
+        values[u] = 0;
+        u += 1;
+    }
+}
+
+// The least solution in values, and whether there is one; where there is none every value is 0.
+pub fn run(arcs: &[u32], count: usize, values: &mut [u32]) -> bool
+    requires { ⌜ WellFormed (net (now arcs) count) (length (now values)) ⌝ }
+    ensures { λ r. ⌜ Ran (net (now (arcs .entry)) count) (length (now (values .entry))) (now (values .exit)) r ⌝ }
+{
+    if sweep(arcs, count, values) {
+        return true;
+    }
+    clear(values);
+    false
+}
+
+// Passes in alternating directions, at most as many as there are nodes with ground; whether a solution exists.
+fn sweep(arcs: &[u32], count: usize, values: &mut [u32]) -> bool
+    requires { ⌜ WellFormed (net (now arcs) count) (length (now values)) ⌝ }
+    ensures { λ r. ⌜ Swept (net (now (arcs .entry)) count) (length (now (values .entry))) (now (values .exit)) r ⌝ }
+{
+    clear(values);
+    let mut back = false;
+    let mut k = 0;
+    while k < values.len() {
+        match pass(arcs, count, back, values) {
+            Found::Same => {
+                return true;
+            }
+            Found::Changed => {}
+            Found::Stuck => {
+                return false;
+            }
+        }
+        back = !back;
+        k += 1;
+    }
+    false
+}

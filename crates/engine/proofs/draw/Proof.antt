@@ -1,0 +1,53 @@
+-- `engine::draw` meets its contract: a refusal is the reader's, and the loaded arcs are drawn for the bytes.
+use native.Mathlib.Omega.{arith}
+use Rattle.arcs.specs.laws.Loaded.{loaded-sheet, reader-refused}
+use Rattle.arcs.specs.laws.Held.{loaded-holds}
+use Rattle.engine.proofs.laws.Draw.{refused-drawn, loaded-drawn}
+use borrow.Author.Needs.{needs}
+use Rattle.engine.proofs.draw.Statement.{statement}
+use Rattle.engine.proofs.draw.Tie as tie
+
+slice-aggregate-load : tie.Need-slice-aggregate-load
+slice-aggregate-load c = search needs
+
+load-requires : tie.Need-load-requires
+load-requires c κs = search needs
+
+enum-known-r : tie.Need-enum-known-r
+enum-known-r c = search needs
+
+enum-known-counts : tie.Need-enum-known-counts
+enum-known-counts c = search needs
+
+slice-aggregate-draw-loaded : tie.Need-slice-aggregate-draw-loaded
+slice-aggregate-draw-loaded c = search needs
+
+draw-loaded-requires : tie.Need-draw-loaded-requires
+draw-loaded-requires c κs = loaded-holds (loaded-sheet (c .before .before .before .before .before .before .before .before .before .before .before .args .bytes .now) _ (c .before .before .before .before .counts .given .1) (c .before .before .before .before .before .before .before .load .ensures .0) (c .before .before .before .before .before .before .before .load .ensures .1))
+
+returns : tie.Need-returns
+returns c = refused-drawn (c .before .before .before .before .before .before .before .before .args .bytes .now) (c .before .before .before .before .before .before .before .before .args .places .now) (c .before .before .before .before .before .before .before .before .args .list .now) (reader-refused (c .before .before .before .before .before .before .before .before .args .bytes .now) _ (omega arith) (c .before .r .given .1) (c .before .before .before .before .load .ensures .0))
+
+same-length : tie.Need-same-length
+same-length c = search needs
+
+same-length-2 : tie.Need-same-length-2
+same-length-2 c = search needs
+
+returns-2 : tie.Need-returns-2
+returns-2 c = loaded-drawn (loaded-sheet (c .before .before .before .before .before .before .before .before .before .before .before .before .before .before .before .args .bytes .now) _ (c .before .before .before .before .before .before .before .before .counts .given .1) (c .before .before .before .before .before .before .before .before .before .before .before .load .ensures .0) (c .before .before .before .before .before .before .before .before .before .before .before .load .ensures .1)) (c .before .before .before .before .before .before .before .before .before .before .before .before .before .before .before .args .places .now) (c .before .before .before .before .before .before .before .before .before .before .before .before .before .before .before .args .list .now) _ _ _ (c .before .before .before .draw-loaded .ensures)
+
+pub draw-spec : {M : Type 1} → statement M
+draw-spec =
+    tie.close
+    (tie.spec
+    slice-aggregate-load
+    load-requires
+    enum-known-r
+    enum-known-counts
+    slice-aggregate-draw-loaded
+    draw-loaded-requires
+    returns
+    same-length
+    same-length-2
+    returns-2)

@@ -1,0 +1,124 @@
+-- The solvers take a sheet's packed arcs: their numbers are within the limits, and every node hangs on ground.
+use Prim.Native.Nat.{ℕ, zero, suc, _+_, _-_, _*_, _≤_, _<_}
+use mathlib.Core.Path.{_≡_, refl, sym, _∙_, ap, subst}
+use mathlib.Core.Bool.{Bool, true, false, not, cond, _&&_, _||_}
+use mathlib.Core.List.{List}
+use mathlib.Core.Logic.{_⊎_, inl, inr, ⊎-elim}
+use native.Mathlib.Decide.{ℕ-discrete}
+use native.Mathlib.Omega.{arith}
+use borrow.Author.Tests.{eq-eqb, ne-eqb}
+use lib.Dec.{T, eqb, ltb, leb, lt→ltb, le→leb, ltb→lt, leb→le, eqb→eq}
+use lib.IntN.{ℤ, pos, negsuc, natAbs, _-ℤ_}
+use lib.ListN.{length, getD}
+use Rattle.network.specs.Sums.{all, upto}
+use Rattle.network.specs.Network.{Limit, unlimited, limit, finite, Arc, Network}
+use Rattle.network.specs.Packed.{stride, tail-at, head-at, kink-at, low-at, high-at, kink-zero, flow-zero, low-none, high-none, low-of, high-of, arc-at, network-of}
+use Rattle.network.specs.Net.{at, net}
+use Rattle.network.specs.laws.IntegerParts.{up, down}
+use Rattle.network.specs.laws.Sizes.{size-parts}
+use Rattle.network.specs.laws.Indexed.{upto-all, all-upto}
+use Rattle.network.specs.laws.PackedLegal.{less-parts, hard-high}
+use Rattle.network.specs.laws.Hanging.{Hook}
+use Rattle.drawing.specs.Sheet.{sheet-of}
+use Rattle.drawing.specs.Arcs.{network}
+use Rattle.drawing.specs.laws.Proper.{Proper}
+use Rattle.drawing.specs.laws.Hanging.{sheet-hangs}
+use Rattle.drawing.specs.laws.ArcLimits.{low-near, high-near, near, Near, near-parts, network-near}
+use Rattle.arcs.specs.declared.Counts.{Counts}
+use Rattle.arcs.specs.laws.Held.{Holds, proper, size-is, arcs-there, network-is}
+use Rattle.difference.specs.Input as difference
+use Rattle.circulation.specs.Input as circulation
+
+-- a number that is no limit, or stands for a near one
+low-number : (l : ℕ) → T (low-near (low-of l)) → circulation.LowIn l
+unfolding low-of up down
+low-number l t = go (ℕ-discrete l low-none)
+  where
+    stored : (z : ℤ) → up z + flow-zero ≡ down z + l → T (low-near (limit z)) → circulation.LowIn l
+    stored (pos zero) e t = record { top = omega arith; soft = λ f. omega arith }
+    stored (pos (suc n)) e t = absurd t
+    stored (negsuc zero) e t = record { top = omega arith; soft = λ f. omega arith }
+    stored (negsuc (suc n)) e t = absurd t
+
+    go : Dec (l ≡ low-none) → circulation.LowIn l
+    go (yes e) = record { top = omega arith; soft = λ f. absurd (f e) }
+    go (no ne) = stored (pos l -ℤ pos flow-zero) (less-parts l flow-zero) (rw (ne-eqb l low-none ne) at t)
+
+-- the same of a high limit
+high-number : (l : ℕ) → T (high-near (high-of l)) → circulation.HighIn l
+unfolding high-of up down
+high-number l t = go (ℕ-discrete l high-none)
+  where
+    stored : (z : ℤ) → up z + flow-zero ≡ down z + l → T (high-near (limit z)) → circulation.HighIn l
+    stored (pos zero) e t = record { bottom = omega arith; soft = λ f. omega arith }
+    stored (pos (suc zero)) e t = record { bottom = omega arith; soft = λ f. omega arith }
+    stored (pos (suc (suc n))) e t = absurd t
+    stored (negsuc n) e t = absurd t
+
+    go : Dec (l ≡ high-none) → circulation.HighIn l
+    go (yes e) = record { bottom = omega arith; soft = λ f. absurd (f e) }
+    go (no ne) = stored (pos l -ℤ pos flow-zero) (less-parts l flow-zero) (rw (ne-eqb l high-none ne) at t)
+
+module _ {a : List ℕ} {c : Counts} (h : Holds a c) where
+  -- few nodes
+  pub nodes-few : c .nodes ≤ 256
+  nodes-few = omega (arith, h .nodes-are, proper h .nodes)
+
+  -- few edges
+  pub edges-few : c .edges ≤ 512
+  edges-few = omega (arith, h .edges-are, proper h .few)
+
+  -- few arcs
+  pub arcs-few : c .arcs ≤ 1024
+  arcs-few = omega (arith, size-is h, proper h .few, proper h .nodes)
+
+  -- a test that all arcs of the sheet pass
+  all-held : (t : Network → Arc → Bool) → T (all (t (network (sheet-of (h .numbers)))) (network (sheet-of (h .numbers)) .arcs))
+      → (i : ℕ) → i < c .arcs → T (t (network-of a (c .nodes) (c .arcs)) (arc-at a i))
+  all-held t x = upto-all (t (network-of a (c .nodes) (c .arcs))) (c .arcs) (arc-at a) (subst (λ (N : Network). T (all (t N) (N .arcs))) (sym (network-is h)) x)
+
+  -- each arc is within the limits
+  near-at : (i : ℕ) → i < c .arcs → Near (c .nodes + 1) (arc-at a i)
+  unfolding network
+  near-at i l = near-parts (c .nodes + 1) (arc-at a i) (all-held (λ N. near (N .nodes + 1)) (network-near (h .numbers) (proper h)) i l)
+
+  -- the head of an arc is a node or ground
+  pub head-in : (i : ℕ) → i < c .arcs → at a (stride * i + head-at) < c .nodes + 1
+  head-in i l = near-at i l .head
+
+  -- the tail too
+  pub tail-in : (i : ℕ) → i < c .arcs → at a (stride * i + tail-at) < c .nodes + 1
+  tail-in i l = near-at i l .tail
+
+  -- the kink of an arc
+  kink-in : (i : ℕ) → i < c .arcs → (1 ≤ at a (stride * i + kink-at)) × (at a (stride * i + kink-at) < 2 * kink-zero)
+  kink-in i l = (
+    omega (arith, near-at i l .kink, size-parts (pos (at a (stride * i + kink-at)) -ℤ pos kink-zero), less-parts (at a (stride * i + kink-at)) kink-zero),
+    omega (arith, near-at i l .kink, size-parts (pos (at a (stride * i + kink-at)) -ℤ pos kink-zero), less-parts (at a (stride * i + kink-at)) kink-zero),
+  )
+
+  -- the solver of differences takes them
+  pub difference-takes : difference.WellFormed (net a (c .arcs)) (c .nodes + 1)
+  difference-takes = record {
+    room = arcs-there h;
+    some = omega arith;
+    nodes = omega (arith, nodes-few);
+    few = omega (arith, arcs-few);
+    arc-in = λ i l. record { tail-in = near-at i l .tail; head-in = near-at i l .head; kink-low = kink-in i l .0; kink-high = omega (arith, kink-in i l .1) };
+  }
+
+  -- so does the solver of flows
+  pub circulation-takes : circulation.WellFormed (net a (c .arcs)) (c .nodes + 1)
+  circulation-takes = record {
+    room = arcs-there h;
+    some = omega arith;
+    nodes = omega (arith, nodes-few);
+    few = omega (arith, arcs-few);
+    arc-in = λ i l. record {
+      tail-in = near-at i l .tail;
+      head-in = near-at i l .head;
+      kink-in = omega (arith, kink-in i l .1);
+      low-in = low-number (at a (stride * i + low-at)) (near-at i l .low);
+      high-in = high-number (at a (stride * i + high-at)) (near-at i l .high);
+    };
+  }

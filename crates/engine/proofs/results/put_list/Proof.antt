@@ -1,0 +1,89 @@
+-- `engine::results::put_list` meets its contract: each turn fills one number more, and a flow fits 32 bits.
+use mathlib.Core.List.{List}
+use Prim.Native.Nat.{ℕ, _-_, _≤_}
+use lib.IntN.{ℤ, pos, natAbs}
+use lib.ListN.{length-set, length, getD}
+use mir.Facts.{toZ-ofZ}
+use mir.Syntax.{w32}
+use mir.Val.{SFits, toZ, ofZ}
+use Rattle.network.specs.laws.Sizes.{size-fits}
+use Rattle.engine.proofs.laws.Numbers.{number-size}
+use mathlib.Core.Path.{_≡_, refl, sym, _∙_, ap}
+use native.Mathlib.Omega.{arith}
+use borrow.Author.Needs.{needs}
+use Rattle.engine.specs.inside.Filling.{filled}
+use Rattle.engine.specs.inside.Results.{number-at}
+use Rattle.engine.proofs.laws.Filling.{filled-none, filled-store}
+use Rattle.engine.proofs.results.put_list.Statement.{statement}
+use Rattle.engine.proofs.results.put_list.Tie as tie
+
+abbrev Inv-loop : tie.InvT-loop
+Inv-loop flows list₀ i₀ list i = (i ≤ length flows) × (list ≡ filled i (number-at flows) list₀) × (length list ≡ length list₀)
+
+abbrev μ-loop : tie.MeasureT-loop
+μ-loop flows list₀ i₀ list i = length flows - i
+
+loop-holds : tie.Need-loop-holds Inv-loop μ-loop
+loop-holds c = (omega arith, sym (filled-none (number-at (c .before .args .flows .now)) (c .before .args .list .now)), refl)
+
+mul-signed : tie.Need-mul-signed Inv-loop μ-loop
+mul-signed c = search needs
+
+shared-slice-read-signed : tie.Need-shared-slice-read-signed Inv-loop μ-loop
+shared-slice-read-signed c = search needs
+
+signed-requires : tie.Need-signed-requires Inv-loop μ-loop
+signed-requires c κs = c .before .before .before .before .pre .0 .small (c .before .before .loop .i) (omega arith)
+
+mul-t9 : tie.Need-mul-t9 Inv-loop μ-loop
+mul-t9 c = search needs
+
+slice-set-from-list : tie.Need-slice-set-from-list Inv-loop μ-loop
+slice-set-from-list c = search needs
+
+add-i : tie.Need-add-i Inv-loop μ-loop
+add-i c = omega arith
+
+loop-less : tie.Need-loop-less Inv-loop μ-loop
+loop-less c = omega arith
+
+loop-again : tie.Need-loop-again Inv-loop μ-loop
+loop-again c =
+    let flows : List ℕ = c .before .before .before .before .before .args .flows .now in
+    let old : List ℤ = c .before .before .before .before .before .args .list .now in
+    let i : ℕ = c .before .before .before .loop .i in
+    let r : ℤ = c .signed .result in
+    let is : r ≡ number-at flows i = c .signed .ensures in
+    let fits : SFits w32 r = size-fits (omega (arith, ap natAbs is, number-size (getD flows i 0) (c .before .before .before .before .before .pre .0 .small i (omega arith)))) in (
+      omega arith,
+      filled-store (pos 0) i (number-at flows) old (c .before .before .before .loop .list) (toZ w32 (ofZ w32 r)) (c .before .before .before .loop .inv .1) (toZ-ofZ fits ∙ is) (omega (arith, c .before .before .before .before .before .pre .1)),
+      length-set (c .before .before .before .loop .list) i (toZ w32 (ofZ w32 r)) ∙ c .before .before .before .loop .inv .2,
+    )
+
+same-length : tie.Need-same-length Inv-loop μ-loop
+same-length c = search needs
+
+returns : tie.Need-returns Inv-loop μ-loop
+returns c =
+    let flows : List ℕ = c .before .before .before .args .flows .now in
+    let old : List ℤ = c .before .before .before .args .list .now in
+    let e : c .before .loop .i ≡ length flows = omega arith in
+    c .before .loop .inv .1 ∙ ap (λ (n : ℕ). filled n (number-at flows) old) e
+
+pub put-list-spec : {M : Type 1} → statement M
+put-list-spec =
+    tie.close
+    (tie.spec
+    Inv-loop
+    μ-loop
+    loop-holds
+    mul-signed
+    shared-slice-read-signed
+    signed-requires
+    mul-t9
+    slice-set-from-list
+    add-i
+    loop-less
+    loop-again
+    same-length
+    returns)

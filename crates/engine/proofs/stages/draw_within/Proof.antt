@@ -1,0 +1,75 @@
+-- `engine::stages::draw_within` meets its contract: start, flows and the writing, one after the other.
+use Prim.Native.Nat.{_+_}
+use mathlib.Core.Path.{_∙_}
+use borrow.Author.Tests.{not-true, not-false}
+use Rattle.engine.specs.Draws.{result}
+use Rattle.engine.proofs.laws.Draw.{none-drawn, not-started, is-started, solved-from}
+use borrow.Author.Needs.{needs}
+use Rattle.engine.proofs.stages.draw_within.Statement.{statement}
+use Rattle.engine.proofs.stages.draw_within.Tie as tie
+
+start-requires : tie.Need-start-requires
+start-requires c κs = search needs
+
+refused-requires : tie.Need-refused-requires
+refused-requires c κs = search needs
+
+same-length : tie.Need-same-length
+same-length c = search needs
+
+returns : tie.Need-returns
+returns c = none-drawn (c .before .before .before .before .before .before .before .before .before .before .args .places .now) (c .before .before .before .before .before .before .before .before .before .before .args .list .now) (c .refused .ensures) (c .before .before .before .before .before .before .before .before .before .before .pre .1 .places-enough) (c .before .before .before .before .before .before .before .before .before .before .pre .1 .list-enough) (not-started (c .before .before .before .before .before .before .before .before .before .before .args .arcs .now) (c .before .before .before .before .before .before .before .before .before .before .args .counts .arcs) (c .before .before .before .before .before .before .before .before .before .before .args .counts .nodes + 1) (c .before .before .before .before .start .last .1 .1 .0) (c .before .before .before .before .start .result) (c .before .before .before .before .start .ensures) (not-true (c .before .before .before .before .start .result) (c .before .if1 .taken)))
+
+slice-aggregate-solve : tie.Need-slice-aggregate-solve
+slice-aggregate-solve c = search needs
+
+solve-requires : tie.Need-solve-requires
+solve-requires c κs = search needs
+
+finish-requires : tie.Need-finish-requires
+finish-requires c κs =
+    let solved = solved-from {c = c .before .before .before .before .before .before .before .before .before .before .before .before .before .before .before .before .before .before .before .before .before .before .args .counts} (c .before .before .before .before .before .before .before .before .before .before .before .before .before .before .before .before .before .before .before .before .before .before .args .flows .now) (c .before .before .before .before .before .before .before .before .before .before .before .before .before .before .before .before .start .last .1 .1 .0) _ _ _ _ (c .before .before .before .before .before .before .before .before .before .solve .result) (c .before .before .before .before .before .before .before .before .before .before .before .before .before .before .before .before .before .before .before .before .before .before .pre .1 .flows-are) (c .before .before .before .before .before .before .before .before .before .before .before .before .before .before .before .before .start .kept .1 .1 .0 ∙ c .before .before .before .before .before .before .before .before .before .before .before .before .before .before .before .before .before .before .before .before .before .before .pre .1 .nodes-are) (is-started (c .before .before .before .before .before .before .before .before .before .before .before .before .before .before .before .before .before .before .before .before .before .before .args .arcs .now) (c .before .before .before .before .before .before .before .before .before .before .before .before .before .before .before .before .before .before .before .before .before .before .args .counts .arcs) (c .before .before .before .before .before .before .before .before .before .before .before .before .before .before .before .before .before .before .before .before .before .before .args .counts .nodes + 1) (c .before .before .before .before .before .before .before .before .before .before .before .before .before .before .before .before .start .last .1 .1 .0) (c .before .before .before .before .before .before .before .before .before .before .before .before .before .before .before .before .start .result) (c .before .before .before .before .before .before .before .before .before .before .before .before .before .before .before .before .start .ensures) (not-false (c .before .before .before .before .before .before .before .before .before .before .before .before .before .before .before .before .start .result) (c .before .before .before .before .before .before .before .before .before .before .before .before .before .if1 .left))) (c .before .before .before .before .before .before .before .before .before .solve .ensures) in (
+      c .before .before .before .before .before .before .before .before .before .before .before .before .before .before .before .before .before .before .before .before .before .before .pre .0,
+      (
+        record {
+          flows-are = solved .flows-size ∙ c .before .before .before .before .before .before .before .before .before .before .before .before .before .before .before .before .before .before .before .before .before .before .pre .1 .flows-are;
+          nodes-are = solved .nodes-size ∙ (c .before .before .before .before .before .before .before .before .before .before .before .before .before .before .before .before .start .kept .1 .1 .0 ∙ c .before .before .before .before .before .before .before .before .before .before .before .before .before .before .before .before .before .before .before .before .before .before .pre .1 .nodes-are);
+          places-enough = c .before .before .before .before .before .before .before .before .before .before .before .before .before .before .before .before .before .before .before .before .before .before .pre .1 .places-enough;
+          list-enough = c .before .before .before .before .before .before .before .before .before .before .before .before .before .before .before .before .before .before .before .before .before .before .pre .1 .list-enough;
+        },
+        solved .settled,
+      ),
+    )
+
+same-length-2 : tie.Need-same-length-2
+same-length-2 c = search needs
+
+same-length-3 : tie.Need-same-length-3
+same-length-3 c = search needs
+
+same-length-4 : tie.Need-same-length-4
+same-length-4 c = search needs
+
+same-length-5 : tie.Need-same-length-5
+same-length-5 c = search needs
+
+returns-2 : tie.Need-returns-2
+unfolding result
+returns-2 c = λ h. c .before .before .before .finish .ensures h
+
+pub draw-within-spec : {M : Type 1} → statement M
+draw-within-spec =
+    tie.close
+    (tie.spec
+    start-requires
+    refused-requires
+    same-length
+    returns
+    slice-aggregate-solve
+    solve-requires
+    finish-requires
+    same-length-2
+    same-length-3
+    same-length-4
+    same-length-5
+    returns-2)

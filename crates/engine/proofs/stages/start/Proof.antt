@@ -1,0 +1,44 @@
+-- `engine::stages::start` meets its contract: the least solution of the differences is a start.
+use native.Mathlib.Omega.{arith}
+use Rattle.engine.proofs.laws.Fits.{nodes-few}
+use Rattle.engine.proofs.laws.Start.{started-so}
+use borrow.Author.Needs.{needs}
+use Rattle.engine.proofs.stages.start.Statement.{statement}
+use Rattle.engine.proofs.stages.start.Tie as tie
+
+add-count : tie.Need-add-count
+add-count c = search needs
+
+slice-aggregate-least : tie.Need-slice-aggregate-least
+slice-aggregate-least c = search needs
+
+least-requires : tie.Need-least-requires
+least-requires c κs = search needs
+
+slice-aggregate-set-potentials : tie.Need-slice-aggregate-set-potentials
+slice-aggregate-set-potentials c = search needs
+
+set-potentials-requires : tie.Need-set-potentials-requires
+set-potentials-requires c κs = (omega (arith, c .before .before .before .before .before .before .before .before .pre .1), omega (arith, nodes-few (c .before .before .before .before .before .before .before .before .pre .0), c .before .before .before .least .kept .1 .1 .1 .0), omega (arith, nodes-few (c .before .before .before .before .before .before .before .before .pre .0)))
+
+found-requires : tie.Need-found-requires
+found-requires c κs = search needs
+
+same-length : tie.Need-same-length
+same-length c = search needs
+
+returns : tie.Need-returns
+returns c = started-so (c .before .before .before .before .before .before .before .before .before .before .before .before .pre .0) _ _ (c .before .before .before .before .before .before .before .before .before .before .before .before .args .nodes .now) _ (c .before .before .before .before .before .before .before .least .result) (c .found .result) (omega (arith, nodes-few (c .before .before .before .before .before .before .before .before .before .before .before .before .pre .0))) (c .before .before .before .before .before .before .before .least .kept .1 .1 .1 .0) (c .before .before .before .before .before .before .before .before .before .before .before .before .pre .1) (c .before .before .before .before .before .before .before .least .ensures) (c .before .before .before .set-potentials .ensures) (c .found .ensures)
+
+pub start-spec : {M : Type 1} → statement M
+start-spec =
+    tie.close
+    (tie.spec
+    add-count
+    slice-aggregate-least
+    least-requires
+    slice-aggregate-set-potentials
+    set-potentials-requires
+    found-requires
+    same-length
+    returns)

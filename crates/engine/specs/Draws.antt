@@ -1,0 +1,72 @@
+-- What drawing a sheet answers and leaves in the two lent slices (document 01, "Drawing and total", "The pull list", "Refusals"),
+-- by what reading gives. Only the list is left open: any list will do that meets the rules and has the total as its bound.
+use Prim.Native.Nat.{ℕ, _≤_, _<_}
+use mathlib.Core.Path.{_≡_}
+use mathlib.Core.List.{List}
+use lib.Dec.{T}
+use lib.IntN.{ℤ, pos}
+use lib.ListN.{length, take, drop}
+use Rattle.leb128.specs.Refusals.{slice-short}
+use Rattle.leb128.specs.Source.{refusal}
+use Rattle.leb128.specs.Format.{Result}
+use Rattle.leb128.specs.Format.Result.{elements}
+use Rattle.leb128.specs.declared.Refusal.{Refusal}
+use Rattle.drawing.specs.Sheet.{Sheet, sheet-of}
+use Rattle.drawing.specs.Drawing.{Drawing, LeftmostDrawing, total-length}
+use Rattle.drawing.specs.Certificate.{certificate-size, meets-rules, bound}
+use Rattle.engine.specs.Refusals.{none-exists, total-passes, total-limit}
+use Rattle.engine.specs.declared.Answer.{Answer}
+use Rattle.engine.specs.declared.Answer.the-variants as answer
+
+-- the total, or the refusal
+pub data Drawn : Type 0 where
+  drawn : ℕ → Drawn
+  refused : Refusal → Drawn
+
+-- what each case of the code's answer stands for
+unfoldable pub result : Answer → Drawn
+result (answer.Drawn total) = Drawn.drawn total
+result (answer.Refused r) = Drawn.refused r
+
+-- both slices, of so many elements, are long enough: a place for each node, a number for each edge and two for each node
+pub record Room (S : Sheet) (places list : ℕ) : Type 0 where
+  pub nodes : S .nodes ≤ places
+  pub numbers : certificate-size S ≤ list
+
+-- no drawing exists
+abbrev pub NoDrawing : Sheet → Type 0
+NoDrawing S = (q : List ℕ) → Drawing S q → ⊥
+
+-- why a good sheet is refused, by the refusal's number: a slice is too short; no drawing exists; the least total passes the limit
+pub data Refuses (S : Sheet) (places list : ℕ) : ℕ → Type 0 where
+  few-places : places < S .nodes → Refuses S places list slice-short
+  few-numbers : list < certificate-size S → Refuses S places list slice-short
+  none : Room S places list → NoDrawing S → Refuses S places list none-exists
+  passes : (p : List ℕ) → Room S places list → LeftmostDrawing S p → total-limit < total-length S p → Refuses S places list total-passes
+
+-- the leftmost least drawing is in front of the places, with its total; the list in front of the list shows that no total is
+-- smaller; elements behind are as they were
+pub record Returns (S : Sheet) (p₀ : List ℕ) (y₀ : List ℤ) (p : List ℕ) (y : List ℤ) (total : ℕ) : Type 0 where
+  pub room : Room S (length p₀) (length y₀)
+  pub leftmost : LeftmostDrawing S (take (S .nodes) p)
+  pub places-behind : drop (S .nodes) p ≡ drop (S .nodes) p₀
+  pub total-is : total ≡ total-length S (take (S .nodes) p)
+  pub total-in : total ≤ total-limit
+  pub list-size : length y ≡ length y₀
+  pub list-behind : drop (certificate-size S) y ≡ drop (certificate-size S) y₀
+  pub rules : T (meets-rules S (take (certificate-size S) y))
+  pub bound-is : bound S (take (certificate-size S) y) ≡ pos total
+
+-- both slices are as they were
+abbrev pub Keeps : List ℕ → List ℤ → List ℕ → List ℤ → Type 0
+Keeps p₀ y₀ p y = (p ≡ p₀) × (y ≡ y₀)
+
+-- a good sheet, with the slices before and after
+abbrev pub DrawsSheet : Sheet → List ℕ → List ℤ → List ℕ → List ℤ → Drawn → Type 0
+DrawsSheet S p₀ y₀ p y (Drawn.drawn total) = Returns S p₀ y₀ p y total
+DrawsSheet S p₀ y₀ p y (Drawn.refused r) = Refuses S (length p₀) (length y₀) (r .number) × (r .offset ≡ 0) × Keeps p₀ y₀ p y
+
+-- the whole call, by what reading gives: its refusals come first
+unfoldable pub Draws : Result → List ℕ → List ℤ → List ℕ → List ℤ → Drawn → Type 0
+Draws (elements numbers) p₀ y₀ p y d = DrawsSheet (sheet-of numbers) p₀ y₀ p y d
+Draws (Result.refused r) p₀ y₀ p y d = (d ≡ Drawn.refused r) × Keeps p₀ y₀ p y

@@ -1,0 +1,4 @@
+pub mod Refusals
+pub mod Draws
+pub mod inside
+pub mod laws

@@ -1,0 +1,3 @@
+pub mod Filling
+pub mod Results
+pub mod Stages

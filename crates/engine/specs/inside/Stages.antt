@@ -1,0 +1,54 @@
+-- What holds between the stages of drawing a sheet's packed arcs.
+use Prim.Native.Nat.{ℕ, zero, suc, _+_, _*_, _≤_}
+use mathlib.Core.Path.{_≡_}
+use mathlib.Core.Bool.{Bool, true, false}
+use mathlib.Core.List.{List}
+use lib.IntN.{ℤ}
+use lib.ListN.{length, set}
+use Rattle.network.specs.Net.{at, net, meant}
+use Rattle.difference.specs.Input.{Taken}
+use Rattle.difference.specs.Solutions.{NoneFeasible}
+use Rattle.difference.specs.declared.Answer.the-variants.{Solved, NoSolution, Malformed}
+use Rattle.difference.specs.declared.Answer as difference
+use Rattle.circulation.specs.Nodes.{node-stride, potentials}
+use Rattle.circulation.specs.Input.{Valid}
+use Rattle.circulation.specs.Solutions.{Solution}
+use Rattle.drawing.specs.Sheet.{sheet-of}
+use Rattle.arcs.specs.declared.Counts.{Counts}
+use Rattle.arcs.specs.laws.Held.{Holds}
+use Rattle.engine.specs.Draws.{Drawn, Returns, DrawsSheet}
+
+-- the contract of drawing, for the sheet whose packed arcs are held
+abbrev pub DrawsHeld : (a : List ℕ) (c : Counts) (p₀ : List ℕ) (y₀ : List ℤ) (p : List ℕ) (y : List ℤ) → Drawn → Type 0
+DrawsHeld a c p₀ y₀ p y d = (h : Holds a c) → DrawsSheet (sheet-of (h .numbers)) p₀ y₀ p y d
+
+-- the room that is lent: a flow for each arc, six numbers for each node and ground; and enough places and numbers of the list
+pub record Within (c : Counts) (flows nodes places list : ℕ) : Type 0 where
+  pub flows-are : flows ≡ c .arcs
+  pub nodes-are : nodes ≡ node-stride * (c .nodes + 1)
+  pub places-enough : c .nodes ≤ places
+  pub list-enough : c .arcs ≤ list
+
+-- the nodes with the first n values as potentials
+unfoldable pub potentials-to : ℕ → List ℕ → List ℕ → List ℕ
+potentials-to zero values nodes = nodes
+potentials-to (suc n) values nodes = set (potentials-to n values nodes) (node-stride * n) (at values n)
+
+-- whether a solution was found
+unfoldable pub found : difference.Answer → Bool
+found Solved = true
+found NoSolution = false
+found Malformed = false
+
+-- feasible potentials stand in the nodes, or there are none
+abbrev pub Started : (a : List ℕ) (count n : ℕ) (nodes : List ℕ) → Bool → Type 0
+Started a count n nodes true = Valid (net a count) n (potentials nodes)
+Started a count n nodes false = NoneFeasible (meant (net a count) n)
+
+-- flows and nodes are what the solver leaves
+abbrev pub Settled : (a : List ℕ) (c : Counts) (flows nodes : List ℕ) → Type 0
+Settled a c flows nodes = Solution (net a (c .arcs)) (c .nodes + 1) (at flows) (at (potentials nodes))
+
+-- places and list are written, and the total is theirs
+abbrev pub Written : (a : List ℕ) (c : Counts) (p₀ : List ℕ) (y₀ : List ℤ) (p : List ℕ) (y : List ℤ) (total : ℕ) → Type 0
+Written a c p₀ y₀ p y total = (h : Holds a c) → Returns (sheet-of (h .numbers)) p₀ y₀ p y total

@@ -1,0 +1,56 @@
+-- The checker says yes to what drawing leaves: each of its tests is one of the contract's facts.
+use Prim.Native.Nat.{ℕ, _≤_}
+use mathlib.Core.Path.{_≡_, refl, _∙_, ap}
+use mathlib.Core.Bool.{Bool, true, false}
+use mathlib.Core.List.{List}
+use native.Mathlib.Omega.{arith}
+use borrow.Author.Tests.{le-ltb}
+use lib.Dec.{T}
+use lib.IntN.{ℤ, pos}
+use lib.ListN.{length, take, length-take}
+use Rattle.leb128.specs.Format.{Result}
+use Rattle.leb128.specs.Format.Result.{elements}
+use Rattle.leb128.specs.declared.Refusal.{Refusal}
+use Rattle.drawing.specs.Sheet.{sheet-of}
+use Rattle.drawing.specs.Certificate.{certificate-size}
+use Rattle.drawing.specs.Judged.{judged}
+use Rattle.drawing.specs.laws.Judged.{Accepted, accepted-judged}
+use Rattle.checker.specs.Verdict.{Judgement, said, decided, judge-numbers, check-answer}
+use Rattle.engine.specs.Draws.{Drawn, Returns, DrawsSheet, Draws}
+
+-- yes is said where the decision is yes
+said-true : (b : Bool) → T b → said b ≡ Judgement.accepted
+unfolding said
+said-true true t = refl
+said-true false t = absurd t
+
+module _ (s p₀ : List ℕ) (y₀ : List ℤ) (p : List ℕ) (y : List ℤ) (total : ℕ) (g : Returns (sheet-of s) p₀ y₀ p y total) where
+  -- the facts that the checker decides
+  facts : Accepted (sheet-of s) (take (sheet-of s .nodes) p) (take (certificate-size (sheet-of s)) y)
+  facts = record { drawing = g .leftmost .is-least .drawing; rules = g .rules; equal = g .bound-is ∙ ap pos (g .total-is) }
+
+  -- enough places
+  places-enough : sheet-of s .nodes ≤ length p
+  places-enough = omega (arith, g .leftmost .is-least .drawing .size, length-take (sheet-of s .nodes) p)
+
+  -- enough numbers
+  numbers-enough : certificate-size (sheet-of s) ≤ length y
+  numbers-enough = omega (arith, g .list-size, g .room .numbers)
+
+  -- yes on the sheet's numbers
+  numbers-yes : judge-numbers s p y ≡ Judgement.accepted
+  unfolding judge-numbers decided
+  numbers-yes =
+      rw (le-ltb (length p) (sheet-of s .nodes) places-enough, le-ltb (length y) (certificate-size (sheet-of s)) numbers-enough)
+      (said-true (judged (sheet-of s) (take (sheet-of s .nodes) p) (take (certificate-size (sheet-of s)) y)) (accepted-judged s (take (sheet-of s .nodes) p) (take (certificate-size (sheet-of s)) y) facts))
+
+-- a total is no refusal
+drawn-not : {total : ℕ} {r : Refusal} → Drawn.drawn total ≡ Drawn.refused r → ⊥
+drawn-not e = let z : _≡_ {A = ℕ} 0 1 = cc in omega arith
+
+-- the checker says yes to what is drawn
+pub drawn-accepted : (read : Result) (p₀ : List ℕ) (y₀ : List ℤ) (p : List ℕ) (y : List ℤ) (total : ℕ)
+    → Draws read p₀ y₀ p y (Drawn.drawn total) → check-answer read p y ≡ Judgement.accepted
+unfolding Draws check-answer
+drawn-accepted (elements numbers) p₀ y₀ p y total g = numbers-yes numbers p₀ y₀ p y total g
+drawn-accepted (Result.refused r) p₀ y₀ p y total g = absurd (drawn-not (g .0))

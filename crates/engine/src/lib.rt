@@ -1,0 +1,65 @@
+// Drawing a sheet: the leftmost least drawing, its total and the list that shows the total to be least.
+mod limits;
+mod refusals;
+mod results;
+mod stages;
+
+use crate::limits::MAX_NODE_NUMBERS;
+use crate::refusals::refused;
+use crate::stages::draw_within;
+use arcs::Counts;
+use arcs::Loaded;
+use arcs::limits::MAX_ARCS;
+use arcs::limits::MAX_ELEMENTS;
+use circulation::layout::NODE_STRIDE;
+use leb128::Refusal;
+use leb128::refusals::SLICE_SHORT;
+ghost use Rattle.leb128.specs.Format.{reading};
+ghost use Rattle.sheet.specs.Limits.{magic};
+ghost use Rattle.sheet.specs.Grammar.{sheet};
+ghost use Rattle.arcs.specs.laws.Held.{Holds};
+ghost use Rattle.engine.specs.Draws.{result, Draws};
+ghost use Rattle.engine.specs.inside.Stages.{DrawsHeld};
+
+// The total, or the refusal.
+pub enum Answer {
+    Drawn(u32),
+    Refused(Refusal),
+}
+
+// The leftmost least drawing of a sheet, in front of the places, and a list that shows its total to be least, in front of the
+// list; or the refusal.
+pub fn draw(bytes: &[u8], places: &mut [u16], list: &mut [i32]) -> Answer
+    ensures { λ r. ⌜ Draws (reading magic sheet (now (bytes .entry))) (now (places .entry)) (now (list .entry)) (now (places .exit)) (now (list .exit)) (result r) ⌝ }
+{
+    let mut arcs = [0u32; MAX_ELEMENTS];
+    match arcs::load(bytes, &mut arcs) {
+        Loaded::Refused(r) => Answer::Refused(r),
+        Loaded::Sheet(counts) => draw_loaded(&arcs, counts, places, list),
+    }
+}
+
+// The same of a sheet's packed arcs, whatever the width that they were loaded with.
+fn draw_loaded(arcs: &[u32], counts: Counts, places: &mut [u16], list: &mut [i32]) -> Answer
+    requires { ⌜ Holds (now arcs) counts ⌝ }
+    ensures { λ r. ⌜ DrawsHeld (now (arcs .entry)) counts (now (places .entry)) (now (list .entry)) (now (places .exit)) (now (list .exit)) (result r) ⌝ }
+{
+    if places.len() < counts.nodes {
+        return refused(SLICE_SHORT);
+    }
+    if list.len() < counts.arcs {
+        return refused(SLICE_SHORT);
+    }
+    let mut flows = [0u32; MAX_ARCS];
+    let mut nodes = [0u32; MAX_NODE_NUMBERS];
+    let count = counts.arcs;
+    let room = NODE_STRIDE * (counts.nodes + 1);
+    draw_within(
+        arcs,
+        counts,
+        &mut flows[0..count],
+        &mut nodes[0..room],
+        places,
+        list,
+    )
+}

@@ -1,0 +1,40 @@
+//! Damaged sheets, drawn into slices a little longer than the good ones need.
+
+use super::Group;
+use crate::certificate;
+use crate::document;
+use crate::draft::Draft;
+use crate::mutation::{changed, doubled, truncated};
+use crate::sheet::{PLAIN, STRAIGHT};
+
+/// Small sheets cut off, and with one byte changed, doubled or appended.
+pub fn sheets() -> Group {
+    let mut group = Group::new("drawing damaged sheets");
+    let long = Draft::new(300, &[2, 1])
+        .separation(1, 1, 200, 300)
+        .edge(1, 1, 1, PLAIN)
+        .edge(1, 2, 1, STRAIGHT);
+    add(&mut group, "first sheet", &document::first());
+    add(&mut group, "numbers of two bytes", &long);
+    group
+}
+
+/// Adds a sheet, damaged.
+fn add(group: &mut Group, name: &str, draft: &Draft) {
+    let bytes = draft.bytes();
+    let sheet = draft.sheet();
+    let (places, list) = (sheet.node_count() + 1, certificate::length(&sheet) + 2);
+    let appended = [&bytes[..], &[0x01]].concat();
+    let changes = |byte: u8| vec![byte.wrapping_add(1), byte ^ 0x80];
+    for (kind, damaged) in [
+        ("cut off at every byte: refused", truncated(&bytes)),
+        ("one byte appended: refused", vec![appended]),
+        ("one byte changed", changed(&bytes, changes)),
+        ("one byte doubled", doubled(&bytes)),
+    ] {
+        group.note(&format!("{name}, {kind}"));
+        for bytes in damaged {
+            group.draw(&bytes, places, list);
+        }
+    }
+}

@@ -1,0 +1,115 @@
+//! Sheets at the limits: full size, the longest edges, the longest chains.
+
+use super::Group;
+use crate::draft::Draft;
+use crate::generate::largest;
+use crate::planted::{planted, Plan};
+use crate::random::Random;
+use crate::sheet::{EDGE_LIMIT, LAYER_LIMIT, NODE_LIMIT, PLAIN, STRAIGHT, WIDTH_LIMIT};
+
+/// Sheets of full size that leave little room to move.
+const TIGHT: Plan = Plan {
+    layers: 8,
+    nodes: NODE_LIMIT,
+    edges: EDGE_LIMIT,
+    distance: 3,
+    play: 1,
+    margin: 0,
+    straight: 1,
+    maximum: 2,
+};
+/// Sheets of full size in which nodes can move far.
+const WIDE: Plan = Plan {
+    distance: 60,
+    play: 50,
+    margin: 2000,
+    straight: 2,
+    maximum: 4,
+    ..TIGHT
+};
+
+/// Small sheets with extreme numbers.
+pub fn extremes() -> Group {
+    let mut group = Group::new("drawing sheets with extreme numbers");
+    group.note("512 edges as long as the greatest width: yes");
+    group.draw_exactly(&longest_edges());
+    group.note("a straight chain through 64 layers at the right boundary: yes");
+    group.draw_exactly(&chain());
+    group.note("a spiral of straight edges that just closes: yes");
+    group.draw_exactly(&spiral(LAYER_LIMIT));
+    group.note("a spiral of straight edges that misses by 1: no");
+    group.draw_exactly(&spiral(LAYER_LIMIT - 1));
+    group.note("64 nodes in one layer that fill the width: yes");
+    group.draw_exactly(&Draft::new(63, &[64]));
+    group.note("64 nodes in one layer, width one less: no");
+    group.draw_exactly(&Draft::new(62, &[64]));
+    group
+}
+
+/// Two layers that fill the greatest width, with all edges from the left to the right.
+fn longest_edges() -> Draft {
+    let mut draft = Draft::new(WIDTH_LIMIT, &[2, 2])
+        .separation(1, 1, WIDTH_LIMIT, 0)
+        .separation(2, 1, WIDTH_LIMIT, WIDTH_LIMIT);
+    for _ in 0..EDGE_LIMIT {
+        draft = draft.edge(1, 1, 2, PLAIN);
+    }
+    draft
+}
+
+/// A straight chain whose last layer has another node far to the left.
+fn chain() -> Draft {
+    let mut counts = [1; LAYER_LIMIT as usize];
+    counts[63] = 2;
+    let mut draft = Draft::new(WIDTH_LIMIT, &counts).separation(64, 1, WIDTH_LIMIT, 0);
+    for layer in 1..LAYER_LIMIT {
+        let lower = counts[usize::from(layer)];
+        draft = draft.edge(layer, 1, lower, STRAIGHT);
+    }
+    draft
+}
+
+/// Layers of three nodes. Straight edges make each layer stand a step to the right of the one
+/// above, and hold the last nodes in line; in the first layer the last two are at most so far apart.
+fn spiral(maximum: u16) -> Draft {
+    let mut draft = Draft::new(WIDTH_LIMIT, &[3; LAYER_LIMIT as usize]);
+    draft = draft.separation(1, 2, 1, maximum);
+    for layer in 1..LAYER_LIMIT {
+        draft = draft
+            .edge(layer, 2, 1, STRAIGHT)
+            .edge(layer, 3, 3, STRAIGHT);
+    }
+    draft
+}
+
+/// Sheets with 256 nodes and 512 edges.
+pub fn full() -> Group {
+    let mut group = Group::new("drawing sheets of full size");
+    let mut random = Random::new(35);
+    let plans = [
+        ("8 layers, tight", TIGHT),
+        ("8 layers, wide", WIDE),
+        ("4 layers, tight", Plan { layers: 4, ..TIGHT }),
+        ("4 layers, wide", Plan { layers: 4, ..WIDE }),
+        (
+            "64 layers, tight",
+            Plan {
+                layers: 64,
+                ..TIGHT
+            },
+        ),
+        ("64 layers, wide", Plan { layers: 64, ..WIDE }),
+    ];
+    for (name, plan) in plans {
+        group.note(&format!("{name}: yes"));
+        group.draw_exactly(&planted(&mut random, &plan));
+    }
+    group.note("one short, each slice alone: refused");
+    let bytes = planted(&mut random, &TIGHT).bytes();
+    let (places, list) = (NODE_LIMIT.into(), 1024);
+    group.draw(&bytes, places - 1, list);
+    group.draw(&bytes, places, list - 1);
+    group.note("the sheet with the most numbers, which has no drawing: no");
+    group.draw_exactly(&largest());
+    group
+}

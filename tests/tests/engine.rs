@@ -1,0 +1,146 @@
+//! The engine: document 01's answers, refusals, and the stored cases against brute force.
+
+use second::cases::draw;
+use second::certificate;
+use second::checker::check;
+use second::document::{self, NO_DRAWING, ONE_NODE, REFUSED};
+use second::draft::Draft;
+use second::drawing::{least_drawings, leftmost, Sheet};
+use second::engine;
+use second::planted::{planted, Plan};
+use second::random::Random;
+use second::refusal::Refusal;
+use second::sheet::{read, NUMBER_LIMIT, STRAIGHT};
+
+/// What the slices hold before a call.
+const BEFORE: (u16, i32) = (0xa5a5, -7);
+
+/// A total and the places it was found with; or number and offset of the refusal.
+type Answer = Result<(u32, Vec<u16>), (u32, usize)>;
+
+/// Draws into slices of these lengths, and checks what is kept and that the checker says yes.
+fn draw(bytes: &[u8], places: usize, list: usize) -> Answer {
+    let mut places = vec![BEFORE.0; places];
+    let mut list = vec![BEFORE.1; list];
+    match engine::draw(bytes, &mut places, &mut list) {
+        Ok(total) => {
+            let sheet = sheet_of(bytes);
+            assert_eq!(check(bytes, &places, &list), Ok(true));
+            let kept = list.split_off(certificate::length(&sheet));
+            assert!(kept.iter().all(|&n| n == BEFORE.1));
+            let kept = places.split_off(sheet.node_count());
+            assert!(kept.iter().all(|&place| place == BEFORE.0));
+            Ok((total, places))
+        }
+        Err(Refusal { number, offset }) => {
+            assert!(places.iter().all(|&place| place == BEFORE.0));
+            assert!(list.iter().all(|&n| n == BEFORE.1));
+            Err((number, offset))
+        }
+    }
+}
+
+/// The sheet of good bytes.
+fn sheet_of(bytes: &[u8]) -> Sheet {
+    let mut numbers = [0; NUMBER_LIMIT];
+    let count = read(bytes, &mut numbers).expect("a good sheet");
+    Sheet::from_numbers(&numbers[..count])
+}
+
+/// Draws a sheet into slices of just the lengths it needs.
+fn draw_exactly(draft: &Draft) -> Answer {
+    let sheet = draft.sheet();
+    let list = certificate::length(&sheet);
+    draw(&draft.bytes(), sheet.node_count(), list)
+}
+
+#[test]
+fn sheets_of_the_document_get_its_answers() {
+    let answers: [Option<(u32, &[u16])>; 12] = [
+        Some((1, &[0, 1, 0])),
+        None,
+        Some((2, &[0, 1, 0, 1, 0, 1])),
+        Some((1, &[0, 1, 0, 1, 1, 2])),
+        Some((0, &[0, 1, 1, 2, 2, 3])),
+        None,
+        Some((1, &[0, 1, 0, 1, 1, 2])),
+        None,
+        Some((1, &[0, 1, 0, 1, 2])),
+        Some((0, &[0, 2, 0, 1, 2])),
+        Some((2, &[2, 0, 1, 2])),
+        Some((0, &[0])),
+    ];
+    let sheets = document::sheets();
+    assert_eq!(sheets.len(), answers.len());
+    for ((name, draft), answer) in sheets.iter().zip(answers) {
+        let expected = match answer {
+            Some((total, places)) => Ok((total, places.to_vec())),
+            None => Err((8, 0)),
+        };
+        assert_eq!(draw_exactly(draft), expected, "{name}");
+    }
+}
+
+#[test]
+fn refusals_of_the_document() {
+    let offsets = [2, 0, 3, 4, 7, 7];
+    for ((number, (name, bytes)), offset) in (1..).zip(REFUSED).zip(offsets) {
+        assert_eq!(draw(bytes, 9, 9), Err((number, offset)), "{name}");
+        assert_eq!(draw(bytes, 0, 0), Err((number, offset)), "{name}");
+    }
+    assert_eq!(draw(&ONE_NODE, 0, 2), Err((7, 0)));
+    assert_eq!(draw(&ONE_NODE, 1, 1), Err((7, 0)));
+    assert_eq!(draw(&ONE_NODE, 1, 2), Ok((0, vec![0])));
+    assert_eq!(draw(&NO_DRAWING, 2, 4), Err((8, 0)));
+    assert_eq!(draw(&NO_DRAWING, 1, 4), Err((7, 0)));
+    assert_eq!(draw(&NO_DRAWING, 2, 3), Err((7, 0)));
+}
+
+#[test]
+fn stored_answers_of_tiny_sheets_are_those_of_brute_force() {
+    let groups = draw::groups();
+    let mut named = groups
+        .iter()
+        .filter(|group| group.name == "drawing random tiny sheets");
+    let group = named.next().expect("the group is there");
+    let cases = group.lines.iter().filter(|line| !line.is_comment());
+    for line in cases {
+        let payload = line.input.split(' ').next_back().expect("a payload");
+        let byte = |i: usize| u8::from_str_radix(&payload[i..i + 2], 16).expect("two digits");
+        let bytes: Vec<u8> = (0..payload.len()).step_by(2).map(byte).collect();
+        let expected = match least_drawings(&sheet_of(&bytes)) {
+            Some((total, drawings)) => {
+                let places = leftmost(&drawings);
+                let digits = places.iter().map(|place| format!(" {place:04x}"));
+                format!("total {total}:{}", digits.collect::<String>())
+            }
+            None => "refused 8 at 0:".to_string(),
+        };
+        assert!(line.output.starts_with(&expected), "{}", line.output);
+    }
+}
+
+#[test]
+fn planted_sheets_have_drawings() {
+    let mut random = Random::new(36);
+    let (mut long, mut straight, mut limited) = (0, 0, 0);
+    for i in 0..300 {
+        let plan = Plan {
+            layers: 1 + i % 7,
+            nodes: 7 + i % 20,
+            edges: 2 * (i % 20),
+            distance: 1 + i % 9,
+            play: i % 5,
+            margin: i % 11,
+            straight: 1 + i % 3,
+            maximum: 1 + i % 4,
+        };
+        let draft = planted(&mut random, &plan);
+        let (total, _) = draw_exactly(&draft).expect("a drawing");
+        long += usize::from(total > 0);
+        straight += usize::from(draft.edges.iter().any(|edge| edge.kind == STRAIGHT));
+        let mut separations = draft.layers.iter().flatten();
+        limited += usize::from(separations.any(|pair| pair.maximum > 0));
+    }
+    assert!(long > 100 && straight > 100 && limited > 200);
+}

@@ -1,0 +1,64 @@
+//! The example sheets have drawings, and their stored files are the ones that this package computes.
+
+use std::fs;
+use std::path::{Path, PathBuf};
+
+use second::examples::{examples, printed};
+use second::sheet::STRAIGHT;
+
+/// The command that writes the stored files anew, from the root of the repository.
+const REWRITE: &str = "cd tests && CARGO_TARGET_DIR=../target/cargo \
+    cargo run --release --offline --bin example_sheets -- ../examples";
+
+/// A file of the repository.
+fn stored(path: &str) -> PathBuf {
+    Path::new(env!("CARGO_MANIFEST_DIR")).join("..").join(path)
+}
+
+/// Checks that a stored file has the contents computed.
+fn check_stored(path: &str, computed: &[u8]) {
+    let found = fs::read(stored(path)).unwrap_or_else(|error| panic!("{path}: {error}; {REWRITE}"));
+    assert!(
+        found == computed,
+        "{path} differs; write it with: {REWRITE}"
+    );
+}
+
+#[test]
+fn stored_examples_are_up_to_date() {
+    for (name, draft) in examples() {
+        check_stored(&format!("examples/{name}.sheet"), &draft.bytes());
+        check_stored(&format!("examples/{name}.txt"), printed(&draft).as_bytes());
+    }
+}
+
+#[test]
+fn the_program_is_run_on_the_first_example() {
+    let (_, draft) = &examples()[0];
+    check_stored("crates/place/stdin", &draft.bytes());
+    check_stored("crates/place/stdout", printed(draft).as_bytes());
+}
+
+#[test]
+fn first_example_prints_what_the_document_shows() {
+    let (_, draft) = &examples()[0];
+    assert_eq!(printed(draft), "total 1\n1 1 0\n1 2 1\n2 1 0\n");
+}
+
+#[test]
+fn examples_have_drawings_with_a_total() {
+    for (name, draft) in &examples()[1..] {
+        let text = printed(draft);
+        assert!(
+            text.starts_with("total ") && !text.starts_with("total 0"),
+            "{name}"
+        );
+        let nodes: usize = draft.layers.iter().map(|layer| layer.len() + 1).sum();
+        assert_eq!(text.lines().count(), nodes + 1, "{name}");
+        assert!(draft.layers.len() >= 4, "{name}");
+        assert!(
+            draft.edges.iter().any(|edge| edge.kind == STRAIGHT),
+            "{name}"
+        );
+    }
+}
