@@ -1,4 +1,5 @@
--- The nodes as packed numbers, six to a node: potential, need, rank, parent, room, and one that is not used. The last node is ground.
+-- The nodes as packed numbers, six to a node: potential, need, rank, parent, room, and one that is not used. The last
+-- node is ground.
 use Prim.Native.Nat.{ℕ, _+_, _*_, _/_}
 use mathlib.Core.List.{List}
 use lib.ListN.{length}

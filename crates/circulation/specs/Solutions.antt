@@ -1,4 +1,5 @@
--- What the call answers: flows and potentials of the network that the packed arcs are, and 0 in the room that was lent to work in.
+-- What the call answers: flows and potentials of the network that the packed arcs are, and 0 in the room that was lent to
+-- work in.
 use Prim.Native.Nat.{ℕ, _+_, _-_, _*_, _≤_, _<_}
 use mathlib.Core.Path.{_≡_}
 use mathlib.Core.List.{List}

@@ -1,4 +1,5 @@
-// Hints: the arcs at each node, and the nodes whose arcs are still to be looked at. They only propose arcs: nothing is proved of them.
+// Hints: the arcs at each node, and the nodes whose arcs are still to be looked at. They only propose arcs: nothing is
+// proved of them.
 use crate::arc::head_of;
 use crate::arc::tail_of;
 use crate::gap::NEVER;

@@ -46,8 +46,8 @@ enum Found {
     Nothing,
 }
 
-// Flows that balance, and the leftmost potentials of least cost, from the potentials in nodes; its other numbers are room to work in.
-// chains is room for hints: fast where it has 1 + 3 · nodes + 2 · arcs numbers, slower where it is shorter.
+// Flows that balance, and the leftmost potentials of least cost, from the potentials in nodes; its other numbers are room
+// to work in. chains is room for hints: fast where it has 1 + 3 · nodes + 2 · arcs numbers, slower where it is shorter.
 // At the end the potentials are relative to ground's, with 2^28 added, and all room is 0.
 pub fn solve(arcs: &[u32], flows: &mut [u32], nodes: &mut [u32], chains: &mut [u32]) -> Answer
     ensures { λ r. ⌜ Means (net (now (arcs .entry)) (length (now (flows .entry)))) (now (flows .entry)) (now (nodes .entry)) (now (chains .entry)) (now (flows .exit)) (now (nodes .exit)) (now (chains .exit)) r ⌝ }

@@ -1,5 +1,5 @@
 -- The limits of what is taken.
-use Prim.Native.Nat.{ℕ, _*_}
+use Prim.Native.Nat.{ℕ}
 
 -- nodes, with ground
 abbrev pub most-nodes : ℕ

@@ -1,4 +1,5 @@
-// The least solution of difference constraints, read off the hard sides of packed arcs: every value starts at 0 and is raised only where an arc forces it.
+// The least solution of difference constraints, read off the hard sides of packed arcs: every value starts at 0 and is
+// raised only where an arc forces it.
 mod form;
 mod limits;
 mod number;

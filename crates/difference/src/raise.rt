@@ -17,7 +17,8 @@ ghost use Rattle.network.specs.Net.{net};
 ghost use Rattle.difference.specs.inside.Constraints.{MetHigh, MetLow, Met, Ready, Relaxing};
 ghost use Rattle.difference.specs.inside.Steps.{RelaxMeans, Stepped, join};
 
-// One constraint, value(from) + a <= value(to) + b: raises `to` as far as it asks. The ground is never raised, and nothing above the limit.
+// One constraint, value(from) + a <= value(to) + b: raises `to` as far as it asks. The ground is never raised, and
+// nothing above the limit.
 fn relax(values: &mut [u32], from: usize, to: usize, a: usize, b: usize) -> Found
     requires { ⌜ Relaxing (now values) from to a b ⌝ }
     ensures { λ r. ⌜ RelaxMeans from to a b (now (values .entry)) (now (values .exit)) r ⌝ }

@@ -118,7 +118,8 @@ meets-rules S y = limits (certificate S y) && below (S .nodes) (balanced-at (cer
 abbrev pub over-pairs : (PairTerm → ℤ) → Certificate → ℤ
 over-pairs f c = sum (λ l. sum f (l .pairs)) (c .layers)
 
--- sum of minimum separation × multiplier, minus sum of maximum separation × multiplier, minus width × the sum of the right boundary's
+-- sum of minimum separation × multiplier, minus sum of maximum separation × multiplier, minus width × the sum of the
+-- right boundary's
 abbrev pub bound-of : ℕ → Certificate → ℤ
 bound-of width c =
     (over-pairs (λ x. pos (x .pair .minimum) *ℤ x .minimum) c -ℤ over-pairs (λ x. pos (x .pair .maximum) *ℤ x .maximum) c)

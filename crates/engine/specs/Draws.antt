@@ -1,5 +1,6 @@
--- What drawing a sheet answers and leaves in the two lent slices (document 01, "Drawing and total", "The pull list", "Refusals"),
--- by what reading gives. Only the list is left open: any list will do that meets the rules and has the total as its bound.
+-- What drawing a sheet answers and leaves in the two lent slices (document 01, "Drawing and total", "The pull list",
+-- "Refusals"), by what reading gives. Only the list is left open: any list will do that meets the rules and has the total
+-- as its bound.
 use Prim.Native.Nat.{ℕ, _≤_, _<_}
 use mathlib.Core.Path.{_≡_}
 use mathlib.Core.List.{List}
@@ -7,7 +8,6 @@ use lib.Dec.{T}
 use lib.IntN.{ℤ, pos}
 use lib.ListN.{length, take, drop}
 use Rattle.leb128.specs.Refusals.{slice-short}
-use Rattle.leb128.specs.Source.{refusal}
 use Rattle.leb128.specs.Format.{Result}
 use Rattle.leb128.specs.Format.Result.{elements}
 use Rattle.leb128.specs.declared.Refusal.{Refusal}
@@ -37,7 +37,8 @@ pub record Room (S : Sheet) (places list : ℕ) : Type 0 where
 abbrev pub NoDrawing : Sheet → Type 0
 NoDrawing S = (q : List ℕ) → Drawing S q → ⊥
 
--- why a good sheet is refused, by the refusal's number: a slice is too short; no drawing exists; the least total passes the limit
+-- why a good sheet is refused, by the refusal's number: a slice is too short; no drawing exists; the least total passes
+-- the limit
 pub data Refuses (S : Sheet) (places list : ℕ) : ℕ → Type 0 where
   few-places : places < S .nodes → Refuses S places list slice-short
   few-numbers : list < certificate-size S → Refuses S places list slice-short

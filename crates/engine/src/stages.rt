@@ -1,4 +1,5 @@
-// The stages of drawing a sheet's packed arcs: potentials to start from, flows and the leftmost least potentials, places and list.
+// The stages of drawing a sheet's packed arcs: potentials to start from, flows and the leftmost least potentials, places
+// and list.
 use crate::Answer;
 use crate::limits::MAX_GROUNDED;
 use crate::limits::MAX_HINTS;

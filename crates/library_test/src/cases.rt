@@ -152,7 +152,8 @@ fn operation(letter: u8, room: usize, at: usize, payload: &[u8]) -> bool {
     }
 }
 
-// Runs the case of a line: its letter, two numbers (room and position, or two counts) and payload. Answers whether the line is of this form.
+// Runs the case of a line: its letter, two numbers (room and position, or two counts) and payload. Answers whether the
+// line is of this form.
 pub fn case(line: &[u8]) -> bool {
     if line.len() < PAYLOAD {
         return false;

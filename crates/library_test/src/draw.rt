@@ -21,7 +21,8 @@ fn is_kept(list: &[i32], i: usize) -> bool
     list[i] == NUMBER_BEFORE
 }
 
-// How many numbers at the end of a list are as before the call. The other numbers are the engine's choice, and the checker tells whether they are right.
+// How many numbers at the end of a list are as before the call. The other numbers are the engine's choice, and the
+// checker tells whether they are right.
 fn kept(list: &[i32]) -> usize {
     let mut left = list.len();
     while left > 0 {
@@ -50,7 +51,8 @@ fn draw_into(bytes: &[u8], count: usize, length: usize) {
     draw_sheet(bytes, &mut places[0..n], &mut list[0..m]);
 }
 
-// `D`: the payload is the bytes of a sheet to draw into so many places and a list of so many numbers. Answers whether it is whole bytes.
+// `D`: the payload is the bytes of a sheet to draw into so many places and a list of so many numbers. Answers whether it
+// is whole bytes.
 pub fn draw_case(count: usize, length: usize, payload: &[u8]) -> bool {
     if payload.len() % 2 != 0 {
         return false;

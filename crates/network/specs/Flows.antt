@@ -14,8 +14,8 @@ pub record Flow : Type 0 where
   pub on : Arc
   pub amount : ℤ
 
--- a list's numbers, each on its arc; a number that is missing is 0, and excess is not looked at. (Document 01's pull list is such
--- a list.)
+-- a list's numbers, each on its arc; a number that is missing is 0, and excess is not looked at. (Document 01's pull list
+-- is such a list.)
 abbrev pub flows : List Arc → List ℤ → List Flow
 flows [] y = []
 flows (a ∷ arcs) y = record { on = a; amount = getD y 0 (pos 0) } ∷ flows arcs (drop 1 y)

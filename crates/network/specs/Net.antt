@@ -1,6 +1,6 @@
--- Packed arcs by index, as the solvers read them: all numbers natural, kinks, limits and flows with a number added. Nodes count from
--- 0, and the last one is ground.
-use Prim.Native.Nat.{ℕ, zero, suc, _+_, _-_, _*_, _≤_, _<_}
+-- Packed arcs by index, as the solvers read them: all numbers natural, kinks, limits and flows with a number added. Nodes
+-- count from 0, and the last one is ground.
+use Prim.Native.Nat.{ℕ, _+_, _-_, _*_}
 use mathlib.Core.Path.{_≡_}
 use mathlib.Core.List.{List}
 use lib.ListN.{getD}

@@ -9,7 +9,8 @@ use sheet::limits::MAX_BYTES;
 use sheet::limits::MAX_NODES;
 use sheet::limits::MAX_NUMBERS;
 
-// What is read of the input. A sheet has fewer bytes, so the byte behind it is among these, and no answer depends on any later one.
+// What is read of the input. A sheet has fewer bytes, so the byte behind it is among these, and no answer depends on any
+// later one.
 const INPUT_BYTES: usize = MAX_BYTES + 1;
 
 // Prints the drawing of a sheet.

@@ -1,6 +1,6 @@
 -- A slice that holds the packed arcs of a good sheet: they mean the sheet's network, and those of the edges come first.
 use Prim.Native.Nat.{ℕ, _+_, _*_, _≤_, _<_}
-use mathlib.Core.Path.{_≡_, sym, _∙_, ap, ap₂}
+use mathlib.Core.Path.{_≡_, _∙_, ap, ap₂}
 use mathlib.Core.List.{List, _++_, map, flatMap, append-assoc}
 use native.Mathlib.Omega.{arith}
 use lib.Dec.{T}
@@ -13,7 +13,7 @@ use Rattle.sheet.specs.Grammar.{sheet}
 use Rattle.sheet.specs.Layout.{node-count}
 use Rattle.sheet.specs.Limits.{magic, max-nodes}
 use Rattle.network.specs.Sums.{all}
-use Rattle.network.specs.Network.{Arc, Network}
+use Rattle.network.specs.Network.{Arc}
 use Rattle.network.specs.Packed.{kink-at, stride, kink-zero, packs, packed, storable, arcs-to, network-of}
 use Rattle.network.specs.laws.PackedBack.{packs-append, packs-length, arcs-back, kinks-in}
 use Rattle.drawing.specs.Sheet.{Sheet, sheet-of}
@@ -56,9 +56,11 @@ unfolding loaded-holds
 holds-reads l = l .reads
 
 module _ {a : List ℕ} {c : Counts} (h : Holds a c) where
+  -- the sheet
   abbrev S : Sheet
   S = sheet-of (h .numbers)
 
+  -- its arcs
   abbrev xs : List Arc
   xs = network S .arcs
 

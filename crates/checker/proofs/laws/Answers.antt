@@ -15,13 +15,11 @@ use Rattle.sheet.specs.Limits.{magic}
 use Rattle.sheet.specs.Grammar.{sheet}
 use Rattle.network.specs.Network.{Network, integers}
 use Rattle.network.specs.Flows.{certifies}
-use Rattle.network.specs.Packed.{network-of}
 use Rattle.drawing.specs.Sheet.{sheet-of}
-use Rattle.drawing.specs.Certificate.{certificate-size}
 use Rattle.drawing.specs.Judged.{judged}
 use Rattle.drawing.specs.laws.Judged.{judged-certifies}
 use Rattle.arcs.specs.declared.Counts.{Counts}
-use Rattle.checker.specs.Verdict.{Judgement, judgement, said, decided, judge-numbers, check-answer}
+use Rattle.checker.specs.Verdict.{judgement, said, decided, judge-numbers, check-answer}
 use Rattle.arcs.specs.laws.Loaded.{LoadedSheet}
 use Rattle.arcs.specs.laws.Held.{Holds, loaded-holds, holds-reads, size-is, network-is}
 use Rattle.checker.specs.inside.Table.{table-decision}

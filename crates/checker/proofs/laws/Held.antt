@@ -1,8 +1,7 @@
 -- A slice that holds the packed arcs of a sheet is a table that the loops can read.
-use Prim.Native.Nat.{ℕ, _+_, _*_, _≤_, _<_}
+use Prim.Native.Nat.{ℕ}
 use mathlib.Core.List.{List}
 use native.Mathlib.Omega.{arith}
-use Rattle.drawing.specs.laws.Proper.{Proper}
 use Rattle.arcs.specs.declared.Counts.{Counts}
 use Rattle.arcs.specs.laws.Held.{Holds, proper, size-is, arcs-there, kinks-small}
 use Rattle.checker.specs.inside.Table.{Table}

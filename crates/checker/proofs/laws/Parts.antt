@@ -16,8 +16,7 @@ use Rattle.network.specs.Flows.{allowed, balanced, rules, bound-term, bound, ce
 use Rattle.network.specs.Packed.{stride, arc-at, arcs-to, network-of, flow-at}
 use Rattle.network.specs.laws.Indexed.{flows-upto}
 use Rattle.drawing.specs.Sheet.{sheet-of}
-use Rattle.drawing.specs.Drawing.{Drawing, total-length}
-use Rattle.drawing.specs.Arcs.{network}
+use Rattle.drawing.specs.Drawing.{Drawing}
 use Rattle.drawing.specs.laws.SameDrawings.{feasible-drawing, same-total}
 use Rattle.arcs.specs.Words.{u32-most}
 use Rattle.arcs.specs.Lengths.{lengths-of}

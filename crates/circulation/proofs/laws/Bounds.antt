@@ -1,5 +1,5 @@
--- How high potentials rise: reached nodes are near the source, a step makes an arc to an unreached node tight, and a node with something to spare never
--- rises; so no count of searches enters.
+-- How high potentials rise: reached nodes are near the source, a step makes an arc to an unreached node tight, and a node
+-- with something to spare never rises; so no count of searches enters.
 use Rattle.network.specs.Net.{Net, arcs, tail, head}
 use Rattle.circulation.specs.Input.{WellFormed}
 use Rattle.circulation.specs.inside.Search.{Crosses, step, Near, lifted, Link}

@@ -1,5 +1,5 @@
--- A cut: where no arc crosses from the reached nodes, they bring forth no more than they take in. So a search that reaches no node with something to
--- spare finds a crossing arc.
+-- A cut: where no arc crosses from the reached nodes, they bring forth no more than they take in. So a search that
+-- reaches no node with something to spare finds a crossing arc.
 use Rattle.network.specs.Sums.{sum-to}
 use Rattle.network.specs.laws.SumsTo.{sum-to-le, sum-to-lt, sum-to-eq, sum-to-change, sum-to-zero, sum-to-add, sum-to-swap}
 use Rattle.network.specs.Net.{Net, arcs, tail, head, low, high, asks, stands}

@@ -1,5 +1,5 @@
 -- What the last step takes and leaves: no node is far left of ground, so each potential relative to ground's can be stored.
-use Rattle.network.specs.Net.{at, Net, arcs, head}
+use Rattle.network.specs.Net.{at, Net, head}
 use Rattle.network.specs.Packed.{kink-zero}
 use Rattle.circulation.specs.laws.Columns.{column-length}
 use Rattle.circulation.specs.Nodes.{column, potentials, size, potential-zero}

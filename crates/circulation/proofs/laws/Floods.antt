@@ -1,5 +1,5 @@
--- A search without a goal: where every node is reached, each stands as low over the source as in any potentials that fit the flows; and a network
--- whose nodes hang on hard arcs is reached whole.
+-- A search without a goal: where every node is reached, each stands as low over the source as in any potentials that fit
+-- the flows; and a network whose nodes hang on hard arcs is reached whole.
 use Rattle.network.specs.Net.{at, Net, arcs, tail, head, low, high, asks, stands, HardHigh, HardLow}
 use Rattle.network.specs.laws.SumsTo.{sum-to-eq, sum-to-zero, sum-to-ge}
 use Rattle.circulation.specs.inside.Slackness.{Slack}

@@ -1,4 +1,5 @@
--- The gap of an arc is the step at which it lets a node be reached, and a scan finds the least: case by case on which end is reached.
+-- The gap of an arc is the step at which it lets a node be reached, and a scan finds the least: case by case on which end
+-- is reached.
 use Rattle.network.specs.Net.{Net, arcs, tail, head, low, high, asks, stands}
 use Rattle.circulation.specs.inside.Search.{Enters, Leaves, Distance, Gap, GapAt, Crosses, Crossing, step}
 use Rattle.circulation.specs.inside.Steps.{Nearest}

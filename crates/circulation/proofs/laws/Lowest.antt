@@ -1,5 +1,5 @@
--- After a search from the ground that reached every node the potentials are the leftmost of least cost: any others in complementary slackness with
--- the flows, shifted to natural numbers, are at least as far right along the tree.
+-- After a search from the ground that reached every node the potentials are the leftmost of least cost: any others in
+-- complementary slackness with the flows, shifted to natural numbers, are at least as far right along the tree.
 use Rattle.network.specs.Net.{at, Net, arcs, tail, head, kink, low, high, asks, stands, meant}
 use Rattle.network.specs.laws.Indexed.{upto-length, upto-ext, upto-past, upto-all}
 use Rattle.network.specs.laws.PackedLegal.{less-parts, minus-parts}

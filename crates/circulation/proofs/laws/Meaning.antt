@@ -119,8 +119,6 @@ module _ (N : Net) (n : ℕ) (p x : ℕ → ℕ) (wf : WellFormed N n) (slack : 
     bal .balance v l,
   ))
 
-  -- ---- where an arc stands
-
   -- the parts of a potential
   pub potential-parts : (v : ℕ) → v < n → up (potential (relative n p) v) + p (n - 1) ≡ down (potential (relative n p) v) + p v
   unfolding up down

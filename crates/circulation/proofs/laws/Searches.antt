@@ -1,4 +1,5 @@
--- A search keeps its invariants, and finds a node to spare: potentials of nodes not reached do not rise, so nodes with something to spare stay low.
+-- A search keeps its invariants, and finds a node to spare: potentials of nodes not reached do not rise, so nodes with
+-- something to spare stay low.
 use Rattle.network.specs.laws.SumsTo.{sum-to-change, sum-to-lt}
 use Rattle.network.specs.Net.{at, Net, arcs}
 use Rattle.network.specs.Sums.{sum-to}

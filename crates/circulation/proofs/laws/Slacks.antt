@@ -1,4 +1,5 @@
--- Complementary slackness stays when the reached nodes rise by the least step: an arc that would break it crosses with a lesser step.
+-- Complementary slackness stays when the reached nodes rise by the least step: an arc that would break it crosses with a
+-- lesser step.
 use Rattle.network.specs.Net.{Net, arcs, tail, head, low, high, stands, asks}
 use Rattle.circulation.specs.inside.Slackness.{Slack}
 use Rattle.circulation.specs.Input.{WellFormed}

@@ -1,5 +1,5 @@
--- The walk back from t to s: each arc on the way moves d. Only the ends' needs change, so what is counted at the node where the walk stands is
--- d too much, and nowhere else.
+-- The walk back from t to s: each arc on the way moves d. Only the ends' needs change, so what is counted at the node
+-- where the walk stands is d too much, and nowhere else.
 use Rattle.network.specs.laws.SumsTo.{at-set, sum-to-ge, sum-to-eq, sum-to-add}
 use Rattle.network.specs.Net.{at, Net, arcs, tail, head, low, high, stands, asks}
 use Rattle.circulation.specs.inside.Slackness.{pick, flow, inflow, outflow, Slack}

@@ -1,4 +1,5 @@
--- `circulation::whole` meets its contract: the flows balance, the last search makes the potentials leftmost, and no node is far left of ground.
+-- `circulation::whole` meets its contract: the flows balance, the last search makes the potentials leftmost, and no node
+-- is far left of ground.
 use Rattle.circulation.specs.inside.Steps.{StateAt, Flooded}
 use Rattle.circulation.specs.Nodes.{size, node-stride}
 use Rattle.network.specs.Net.{net}

@@ -1,4 +1,5 @@
--- The search of the method. The need e of a node is outflow − inflow + need-zero (2 ^ 30); order is 0 for a node that is not reached, else its rank.
+-- The search of the method. The need e of a node is outflow − inflow + need-zero (2 ^ 30); order is 0 for a node that is
+-- not reached, else its rank.
 use Rattle.network.specs.Net.{at, Net, arcs, tail, head, low, high, asks, stands, HardLow, HardHigh}
 use Rattle.network.specs.Sums.{sum-to}
 use Rattle.circulation.specs.inside.Slackness.{pick, inflow, outflow, Ready, Slack, Small, Low}
@@ -66,7 +67,8 @@ pub record Distance (from to less more r : ℕ) : Type 0 where
   pub some : r < 4294967296 → (from ≤ to) × (less < more) × (r ≡ to - from)
   pub least : from ≤ to → less < more → (r ≡ to - from) × (r < 4294967296)
 
--- node v was reached over the arc i, which is on its kink, from a node of a lower rank; v's room is at most that node's and the arc's residual
+-- node v was reached over the arc i, which is on its kink, from a node of a lower rank; v's room is at most that node's
+-- and the arc's residual
 pub record Link (N : Net) (p x order room : ℕ → ℕ) (v i : ℕ) : Type 0 where
   pub arc-in : i < arcs N
   pub tight : asks N p i ≡ stands N p i
@@ -125,7 +127,8 @@ pub record Grown (N : Net) (s count : ℕ) (p x order via room : List ℕ) : Typ
   pub near : Near (length p) s (at order) (at p)
   pub low : (v : ℕ) → v < length p → at order v ≡ 0 → at p v ≤ rested-limit
 
--- between two searches: the potentials and flows fit, e is the need that is left, and a node with something to spare has not risen
+-- between two searches: the potentials and flows fit, e is the need that is left, and a node with something to spare has
+-- not risen
 pub record State (N : Net) (p x e : List ℕ) : Type 0 where
   pub wf : WellFormed N (length p)
   pub x-size : length x ≡ arcs N

@@ -1,4 +1,5 @@
--- The contract fixes the answer and every number that is lent but the flows: two ends of the same input have the same answer, and nodes and chains are equal.
+-- The contract fixes the answer and every number that is lent but the flows: two ends of the same input have the same
+-- answer, and nodes and chains are equal.
 use Rattle.network.specs.Net.{at, Net, meant}
 use Rattle.network.specs.laws.Indexed.{upto-in}
 use Rattle.network.specs.laws.IntegerParts.{up, down}

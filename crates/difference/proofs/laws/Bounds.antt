@@ -1,5 +1,6 @@
--- If a solution exists, one exists whose n values are at most n · kink-size: where no value stands in (j · kink-size, (j + 1) · kink-size], all values above can
--- be lowered by 1, which gives a solution of smaller sum; and n + 1 such intervals cannot all hold one of n nodes.
+-- If a solution exists, one exists whose n values are at most n · kink-size: where no value stands in (j · kink-size, (j
+-- + 1) · kink-size], all values above can be lowered by 1, which gives a solution of smaller sum; and n + 1 such
+-- intervals cannot all hold one of n nodes.
 use Rattle.network.specs.Sums.{sum-to}
 use Rattle.network.specs.laws.SumsTo.{sum-to-le, sum-to-lt, sum-to-ge}
 use Rattle.network.specs.Net.{Net, tail, head, kink}

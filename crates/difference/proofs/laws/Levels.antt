@@ -1,4 +1,5 @@
--- Values lowered by 1 above a threshold, and how many stand up to it: the two notions of both arguments by a solution of smaller sum.
+-- Values lowered by 1 above a threshold, and how many stand up to it: the two notions of both arguments by a solution of
+-- smaller sum.
 use Rattle.network.specs.Sums.{sum-to}
 use mathlib.Core.Path.{_≡_, refl}
 use mathlib.Core.Bool.{cond}
@@ -88,7 +89,8 @@ lowered-cases a b = go (decLt a b)
     go (yes less) = inl (less, rw (lt-ltb a b less) (omega arith))
     go (no not-less) = inr (omega arith, rw (le-ltb a b (omega arith)) refl)
 
--- a constraint x + a ≤ y + b after both ends are lowered, each by its threshold: the gap is needed only where the second alone is lowered
+-- a constraint x + a ≤ y + b after both ends are lowered, each by its threshold: the gap is needed only where the second
+-- alone is lowered
 pub lowered-meets : (s t x y a b : ℕ) → x + a ≤ y + b → (x ≤ s → t < y → x + a < y + b) → lowered s x + a ≤ lowered t y + b
 lowered-meets s t x y a b m gap = go (lowered-cases s x) (lowered-cases t y)
   where

@@ -1,4 +1,5 @@
--- What the whole call answers, from what the passes left in the lent part of the slice: the part is the first n values of what is put back.
+-- What the whole call answers, from what the passes left in the lent part of the slice: the part is the first n values of
+-- what is put back.
 use Rattle.network.specs.Net.{at, Net, meant}
 use Rattle.difference.specs.Input.{WellFormed, Taken}
 use Rattle.difference.specs.inside.Constraints.{Least, None}

@@ -1,5 +1,6 @@
--- Why n passes are enough, for n nodes with the ground. For a solution q above the values, the nodes where the values agree with q become more with each pass that raises a
--- value; or q can be lowered, at each node that is still below q, to another solution with a smaller sum.
+-- Why n passes are enough, for n nodes with the ground. For a solution q above the values, the nodes where the values
+-- agree with q become more with each pass that raises a value; or q can be lowered, at each node that is still below q,
+-- to another solution with a smaller sum.
 use Rattle.network.specs.Net.{at, Net, tail, head, kink}
 use Rattle.network.specs.Sums.{sum-to}
 use Rattle.network.specs.laws.SumsTo.{sum-to-le, sum-to-lt, sum-to-ge}
@@ -8,7 +9,7 @@ use Rattle.difference.specs.inside.Constraints.{AllMet, Solution, Below,
 use Rattle.difference.specs.inside.Steps.{Stepped, Swept, Ran}
 use mathlib.Core.Path.{_≡_, sym, _∙_}
 use mathlib.Core.Logic.{_⊎_, ⊎-elim}
-use mathlib.Core.Bool.{Bool, true, false}
+use mathlib.Core.Bool.{Bool, true}
 use mathlib.Core.List.{List}
 use Prim.Native.Nat.{ℕ, zero, suc, _+_, _-_, _≤_, _<_}
 use native.Mathlib.Nat.{le-refl}

@@ -1,4 +1,5 @@
--- One step of raising, and steps put together: each keeps the values at most every solution's, by what its constraint asks of a solution.
+-- One step of raising, and steps put together: each keeps the values at most every solution's, by what its constraint
+-- asks of a solution.
 use Rattle.network.specs.Net.{at, Net}
 use Rattle.network.specs.laws.SumsTo.{at-set}
 use Rattle.difference.specs.inside.Constraints.{Solution, Ready, Risen, Grew, None}

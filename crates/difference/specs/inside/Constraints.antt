@@ -1,4 +1,5 @@
--- Difference constraints of a network's hard sides, their solutions in natural numbers, and the least one. The ground's value is 0.
+-- Difference constraints of a network's hard sides, their solutions in natural numbers, and the least one. The ground's
+-- value is 0.
 --
 use mathlib.Core.Path.{_≡_}
 use mathlib.Core.List.{List}

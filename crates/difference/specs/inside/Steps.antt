@@ -2,15 +2,11 @@
 use mathlib.Core.Path.{_≡_}
 use mathlib.Core.Bool.{Bool, true, false}
 use mathlib.Core.List.{List}
-use Prim.Native.Nat.{ℕ, _+_, _-_, _*_, _≤_, _<_}
+use Prim.Native.Nat.{ℕ, _+_, _-_, _≤_, _<_}
 use lib.ListN.{length, set}
-use Rattle.difference.specs.declared.Answer.the-variants.{Solved, NoSolution, Malformed}
 use Rattle.difference.specs.declared.Found.the-variants.{Same, Changed, Stuck}
-use Rattle.network.specs.Net.{at, Net, meant}
-use Rattle.difference.specs.Input.{Taken}
+use Rattle.network.specs.Net.{at, Net}
 use Rattle.difference.specs.inside.Constraints.{Risen, Grew, Least, None}
-use Rattle.difference.specs.Solutions.{potentials, Lowest, NoneFeasible}
-use Rattle.difference.specs.declared.Answer.{Answer}
 use Rattle.difference.specs.declared.Found.{Found}
 use Rattle.difference.specs.Limits.{value-limit}
 
@@ -21,7 +17,8 @@ RelaxMeans from to a b v₀ v Changed =
     (v ≡ set v₀ to (at v₀ from + a - b)) × (at v₀ to + b < at v₀ from + a) × (to + 1 < length v₀) × (at v₀ from + a ≤ value-limit + b)
 RelaxMeans from to a b v₀ v Stuck = (v ≡ v₀) × (at v₀ to + b < at v₀ from + a) × (to + 1 < length v₀ → value-limit + b < at v₀ from + a)
 
--- what a step tells of the constraints M, each with the values before at the node that forces, and the values after at the node that is raised
+-- what a step tells of the constraints M, each with the values before at the node that forces, and the values after at
+-- the node that is raised
 abbrev pub Told : ((ℕ → ℕ) → (ℕ → ℕ) → Type 0) → Net → List ℕ → List ℕ → Found → Type 0
 Told M N v₀ v Same = (v ≡ v₀) × M (at v₀) (at v)
 Told M N v₀ v Changed = Grew v₀ v × M (at v₀) (at v)

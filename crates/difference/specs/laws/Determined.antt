@@ -1,5 +1,5 @@
--- Two answers that meet the contract for the same input are equal, and so are the potentials: by cases, and by each being at most the other.
--- Assumes nothing.
+-- Two answers that meet the contract for the same input are equal, and so are the potentials: by cases, and by each being
+-- at most the other.
 use mathlib.Core.Path.{_≡_, refl}
 use mathlib.Core.List.{List}
 use Prim.Native.Nat.{ℕ}

@@ -1,11 +1,10 @@
 -- Potentials are feasible exactly where they solve the packed arcs' constraints; so the least solution is the lowest feasible
 -- potentials, and none means none.
-use Prim.Native.Nat.{ℕ, _+_, _-_, _≤_, _<_}
+use Prim.Native.Nat.{ℕ, _-_, _≤_, _<_}
 use mathlib.Core.Path.{_≡_, ap, _∙_, sym}
 use mathlib.Core.List.{List}
 use native.Mathlib.Decide.{ℕ-discrete, decLt}
 use native.Mathlib.Omega.{arith}
-use lib.Dec.{T}
 use lib.IntN.{pos}
 use lib.ListN.{length, take, length-map, length-take, List·getD-eq-default}
 use lib.Seq.{getD-take}

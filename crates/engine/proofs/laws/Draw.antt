@@ -1,6 +1,6 @@
 -- The contract's cases: refusals of a good sheet, what the solver of flows leaves, and the refusals of reading.
 use Prim.Native.Nat.{ℕ, _+_, _-_, _*_, _/_, _≤_, _<_}
-use mathlib.Core.Path.{_≡_, refl, sym, _∙_, ap, subst}
+use mathlib.Core.Path.{_≡_, refl, sym, subst}
 use mathlib.Core.Bool.{Bool, true, false}
 use mathlib.Core.List.{List}
 use native.Mathlib.Omega.{arith}
@@ -16,19 +16,18 @@ use Rattle.sheet.specs.Grammar.{sheet}
 use Rattle.network.specs.Network.{Network, Feasible, integers}
 use Rattle.network.specs.Net.{at, net, meant}
 use Rattle.drawing.specs.Sheet.{sheet-of}
-use Rattle.drawing.specs.Arcs.{network}
 use Rattle.drawing.specs.laws.SameDrawings.{drawing-feasible}
 use Rattle.difference.specs.Solutions.{NoneFeasible}
-use Rattle.circulation.specs.Nodes.{node-stride, size, potentials}
+use Rattle.circulation.specs.Nodes.{node-stride, potentials}
 use Rattle.circulation.specs.Input.{Valid}
 use Rattle.circulation.specs.Solutions.{Solution, Means}
 use Rattle.circulation.specs.declared.Answer.the-variants.{Solved, Malformed}
 use Rattle.circulation.specs.declared.Answer as circulation
 use Rattle.arcs.specs.declared.Counts.{Counts}
 use Rattle.arcs.specs.laws.Loaded.{LoadedSheet}
-use Rattle.arcs.specs.laws.Held.{Holds, size-is, loaded-holds, holds-reads}
+use Rattle.arcs.specs.laws.Held.{size-is, loaded-holds, holds-reads}
 use Rattle.engine.specs.Refusals.{none-exists}
-use Rattle.engine.specs.Draws.{Drawn, result, Room, Refuses, DrawsSheet, Draws}
+use Rattle.engine.specs.Draws.{Drawn, result, DrawsSheet, Draws}
 use Rattle.engine.specs.Draws.Refuses.{few-places, few-numbers, none}
 use Rattle.engine.specs.inside.Stages.{DrawsHeld, Started, Settled}
 use Rattle.engine.specs.declared.Answer.{Answer}

@@ -1,7 +1,7 @@
 -- What is written at the end is what the contract says: the leftmost least potentials are coordinates, the flows a list whose
 -- bound is the total, by duality.
 use Prim.Native.Nat.{ℕ, _+_, _-_, _*_, _≤_, _<_, min}
-use mathlib.Core.Path.{_≡_, refl, sym, _∙_, ap, ap₂, subst}
+use mathlib.Core.Path.{_≡_, sym, _∙_, ap, ap₂, subst}
 use mathlib.Core.List.{List, _++_, map}
 use native.Mathlib.Nat.{add-zero}
 use native.Mathlib.Omega.{arith}
@@ -9,24 +9,21 @@ use lib.Dec.{T}
 use lib.IntN.{ℤ, pos, _-ℤ_}
 use lib.ListN.{length, getD, take, drop, length-map, length-append, length-drop, List·getD-map}
 use lib.Seq.{take-at, drop-at, ext-getD}
-use Rattle.leb128.specs.Limits.{list-limit}
 use Rattle.network.specs.Sums.{upto}
-use Rattle.network.specs.Network.{Network, potential, integers, LeftmostLeast, Feasible, total}
+use Rattle.network.specs.Network.{Network, integers, LeftmostLeast, total}
 use Rattle.network.specs.Flows.{rules, complementary}
-use Rattle.network.specs.Flows as network-flows
-use Rattle.network.specs.Packed.{stride, high-none, network-of}
+use Rattle.network.specs.Packed.{stride, network-of}
 use Rattle.network.specs.Net.{at, net, meant}
 use Rattle.network.specs.laws.IntegerParts.{up, down}
 use Rattle.network.specs.laws.Indexed.{upto-length, upto-in}
 use Rattle.network.specs.laws.PackedLegal.{less-parts}
 use Rattle.network.specs.laws.Duality.{tight-equal}
-use Rattle.sheet.specs.Limits.{max-edges, max-width}
+use Rattle.sheet.specs.Limits.{max-width}
 use Rattle.drawing.specs.Sheet.{Sheet, sheet-of}
-use Rattle.drawing.specs.Drawing.{coordinate, Drawing, LeftmostDrawing, total-length}
+use Rattle.drawing.specs.Drawing.{coordinate, LeftmostDrawing, total-length}
 use Rattle.drawing.specs.Certificate.{certificate-size, meets-rules, bound}
 use Rattle.drawing.specs.Arcs.{network}
 use Rattle.drawing.specs.laws.Hanging.{solution-drawing}
-use Rattle.drawing.specs.laws.Proper.{Proper}
 use Rattle.drawing.specs.laws.SameDrawings.{inside-at, same-total, leftmost-drawing}
 use Rattle.drawing.specs.laws.SameRules.{same-rules, same-bound}
 use Rattle.drawing.specs.laws.Unique.{total-small}
@@ -38,10 +35,10 @@ use Rattle.arcs.specs.Lengths.{lengths-of}
 use Rattle.arcs.specs.laws.SheetLengths.{drawing-total}
 use Rattle.arcs.specs.declared.Counts.{Counts}
 use Rattle.arcs.specs.laws.Held.{Holds, proper, size-is, network-is, edges-front}
-use Rattle.engine.specs.Draws.{Room, Returns}
+use Rattle.engine.specs.Draws.{Returns}
 use Rattle.engine.specs.inside.Filling.{filled}
 use Rattle.engine.specs.inside.Results.{place-at, number-at, Places, Flows}
-use Rattle.engine.specs.inside.Stages.{Within, Settled}
+use Rattle.engine.specs.inside.Stages.{Settled}
 
 -- the network that the solvers read is the sheet's
 pub meant-is : {a : List ℕ} {c : Counts} (h : Holds a c) → meant (net a (c .arcs)) (c .nodes + 1) ≡ network (sheet-of (h .numbers))
@@ -57,6 +54,7 @@ natural-difference k b z e = omega (arith, less-parts b z, ap up e, ap down e)
 
 module _ {a : List ℕ} {c : Counts} (h : Holds a c) (flows nodes : List ℕ) (flows-are : length flows ≡ c .arcs)
     (nodes-are : length nodes ≡ node-stride * (c .nodes + 1)) (s : Settled a c flows nodes) where
+  -- the sheet
   abbrev S : Sheet
   S = sheet-of (h .numbers)
 

@@ -1,28 +1,23 @@
 -- The solvers take a sheet's packed arcs: their numbers are within the limits, and every node hangs on ground.
-use Prim.Native.Nat.{ℕ, zero, suc, _+_, _-_, _*_, _≤_, _<_}
-use mathlib.Core.Path.{_≡_, refl, sym, _∙_, ap, subst}
-use mathlib.Core.Bool.{Bool, true, false, not, cond, _&&_, _||_}
+use Prim.Native.Nat.{ℕ, zero, suc, _+_, _*_, _≤_, _<_}
+use mathlib.Core.Path.{_≡_, sym, subst}
+use mathlib.Core.Bool.{Bool}
 use mathlib.Core.List.{List}
-use mathlib.Core.Logic.{_⊎_, inl, inr, ⊎-elim}
 use native.Mathlib.Decide.{ℕ-discrete}
 use native.Mathlib.Omega.{arith}
-use borrow.Author.Tests.{eq-eqb, ne-eqb}
-use lib.Dec.{T, eqb, ltb, leb, lt→ltb, le→leb, ltb→lt, leb→le, eqb→eq}
-use lib.IntN.{ℤ, pos, negsuc, natAbs, _-ℤ_}
-use lib.ListN.{length, getD}
-use Rattle.network.specs.Sums.{all, upto}
-use Rattle.network.specs.Network.{Limit, unlimited, limit, finite, Arc, Network}
+use borrow.Author.Tests.{ne-eqb}
+use lib.Dec.{T}
+use lib.IntN.{ℤ, pos, negsuc, _-ℤ_}
+use Rattle.network.specs.Sums.{all}
+use Rattle.network.specs.Network.{limit, Arc, Network}
 use Rattle.network.specs.Packed.{stride, tail-at, head-at, kink-at, low-at, high-at, kink-zero, flow-zero, low-none, high-none, low-of, high-of, arc-at, network-of}
 use Rattle.network.specs.Net.{at, net}
 use Rattle.network.specs.laws.IntegerParts.{up, down}
 use Rattle.network.specs.laws.Sizes.{size-parts}
-use Rattle.network.specs.laws.Indexed.{upto-all, all-upto}
-use Rattle.network.specs.laws.PackedLegal.{less-parts, hard-high}
-use Rattle.network.specs.laws.Hanging.{Hook}
+use Rattle.network.specs.laws.Indexed.{upto-all}
+use Rattle.network.specs.laws.PackedLegal.{less-parts}
 use Rattle.drawing.specs.Sheet.{sheet-of}
 use Rattle.drawing.specs.Arcs.{network}
-use Rattle.drawing.specs.laws.Proper.{Proper}
-use Rattle.drawing.specs.laws.Hanging.{sheet-hangs}
 use Rattle.drawing.specs.laws.ArcLimits.{low-near, high-near, near, Near, near-parts, network-near}
 use Rattle.arcs.specs.declared.Counts.{Counts}
 use Rattle.arcs.specs.laws.Held.{Holds, proper, size-is, arcs-there, network-is}

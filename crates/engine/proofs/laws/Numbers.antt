@@ -1,9 +1,9 @@
 -- A stored flow, read back, is a small number.
 use Prim.Native.Nat.{ℕ, _≤_}
 use native.Mathlib.Omega.{arith}
-use lib.IntN.{pos, natAbs, _-ℤ_}
+use lib.IntN.{natAbs}
 use Rattle.network.specs.Packed.{flow-zero, high-none}
-use Rattle.network.specs.laws.IntegerParts.{up, down, min-parts}
+use Rattle.network.specs.laws.IntegerParts.{min-parts}
 use Rattle.network.specs.laws.Sizes.{size-parts}
 use Rattle.network.specs.laws.PackedLegal.{less-parts}
 use Rattle.engine.specs.inside.Results.{number-of}

@@ -1,18 +1,17 @@
 -- Every node of a sheet hangs on ground by a packed arc: were there none, all arcs would pass the opposite test, and so would
 -- the arc by which the node hangs.
 use Prim.Native.Nat.{ℕ, zero, suc, _+_, _-_, _*_, _≤_, _<_}
-use mathlib.Core.Path.{_≡_, refl, sym, _∙_, ap, subst}
+use mathlib.Core.Path.{_≡_, refl, sym, subst}
 use mathlib.Core.Bool.{Bool, true, false, not, _&&_, _||_}
 use mathlib.Core.List.{List}
 use mathlib.Core.Logic.{_⊎_, inl, inr, ⊎-elim}
 use native.Mathlib.Omega.{arith}
 use borrow.Author.Tests.{eq-eqb}
 use lib.Dec.{T, eqb, ltb, leb, lt→ltb, le→leb, ltb→lt, leb→le, eqb→eq}
-use lib.ListN.{length}
 use Rattle.leb128.specs.laws.Cases.{eq-or-ne}
 use Rattle.network.specs.Sums.{all}
-use Rattle.network.specs.Network.{unlimited, finite, Arc, Network}
-use Rattle.network.specs.Packed.{stride, tail-at, head-at, high-at, high-none, high-of, arc-at, network-of}
+use Rattle.network.specs.Network.{finite, Arc, Network}
+use Rattle.network.specs.Packed.{stride, high-at, arc-at}
 use Rattle.network.specs.Net.{at, net}
 use Rattle.network.specs.laws.Tests.{and-left, and-right, and-both}
 use Rattle.network.specs.laws.Indexed.{all-upto}
@@ -21,7 +20,7 @@ use Rattle.network.specs.laws.Hanging.{Hook}
 use Rattle.drawing.specs.Sheet.{sheet-of}
 use Rattle.drawing.specs.Arcs.{network}
 use Rattle.drawing.specs.laws.Hanging.{sheet-hangs}
-use Rattle.circulation.specs.Input.{HangsBy, Hangs, Rooted}
+use Rattle.circulation.specs.Input.{HangsBy, Rooted}
 use Rattle.arcs.specs.declared.Counts.{Counts}
 use Rattle.arcs.specs.laws.Held.{Holds, network-is}
 use Rattle.engine.proofs.laws.Fits.{head-in}

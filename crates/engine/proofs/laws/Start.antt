@@ -11,7 +11,7 @@ use lib.Seq.{getD-take}
 use Rattle.leb128.specs.laws.Cases.{lt-or-le, eq-or-ne}
 use Rattle.network.specs.Network.{integers, legal}
 use Rattle.network.specs.Packed.{stride, tail-at, head-at, arc-at}
-use Rattle.network.specs.Net.{at, net, HardHigh, HardLow}
+use Rattle.network.specs.Net.{at, net}
 use Rattle.network.specs.laws.Indexed.{upto-all}
 use Rattle.network.specs.laws.PackedLegal.{Meets, legal-meets}
 use Rattle.difference.specs.Solutions.{Solves, Means}

@@ -4,9 +4,8 @@ use mathlib.Core.Path.{_≡_}
 use mathlib.Core.Bool.{Bool, true, false}
 use mathlib.Core.List.{List}
 use lib.IntN.{ℤ}
-use lib.ListN.{length, set}
+use lib.ListN.{set}
 use Rattle.network.specs.Net.{at, net, meant}
-use Rattle.difference.specs.Input.{Taken}
 use Rattle.difference.specs.Solutions.{NoneFeasible}
 use Rattle.difference.specs.declared.Answer.the-variants.{Solved, NoSolution, Malformed}
 use Rattle.difference.specs.declared.Answer as difference

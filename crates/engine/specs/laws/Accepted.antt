@@ -16,7 +16,7 @@ use Rattle.drawing.specs.Certificate.{certificate-size}
 use Rattle.drawing.specs.Judged.{judged}
 use Rattle.drawing.specs.laws.Judged.{Accepted, accepted-judged}
 use Rattle.checker.specs.Verdict.{Judgement, said, decided, judge-numbers, check-answer}
-use Rattle.engine.specs.Draws.{Drawn, Returns, DrawsSheet, Draws}
+use Rattle.engine.specs.Draws.{Drawn, Returns, Draws}
 
 -- yes is said where the decision is yes
 said-true : (b : Bool) → T b → said b ≡ Judgement.accepted

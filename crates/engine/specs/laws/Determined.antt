@@ -8,7 +8,6 @@ use lib.IntN.{ℤ}
 use lib.ListN.{length, take, take-append-drop}
 use Rattle.leb128.specs.Format.{Result}
 use Rattle.leb128.specs.Format.Result.{elements}
-use Rattle.leb128.specs.declared.Refusal.{Refusal}
 use Rattle.drawing.specs.Sheet.{Sheet, sheet-of}
 use Rattle.drawing.specs.Drawing.{total-length}
 use Rattle.drawing.specs.laws.Unique.{leftmost-unique}

@@ -1,16 +1,14 @@
--- On every sheet of document 01's table each answer that meets the contract is the row's: its total and its places, or refusal 8.
--- So the contract shuts out every program that draws one of these sheets otherwise, as one that solves the first two layers and
--- packs the others to the left.
-use Prim.Native.Nat.{ℕ, _≤_}
-use mathlib.Core.Path.{_≡_, refl, sym, _∙_, ap, ap₂, subst}
+-- On every sheet of document 01's table each answer that meets the contract is the row's: its total and its places, or
+-- refusal 8. So the contract shuts out every program that draws one of these sheets otherwise, as one that solves the
+-- first two layers and packs the others to the left.
+use Prim.Native.Nat.{ℕ}
+use mathlib.Core.Path.{_≡_, refl, _∙_, ap, ap₂, subst}
 use mathlib.Core.List.{List}
 use native.Mathlib.Omega.{arith}
 use lib.IntN.{ℤ}
 use lib.ListN.{length, take}
 use Rattle.leb128.specs.Source.{refusal}
 use Rattle.leb128.specs.Format.{Result, reading}
-use Rattle.leb128.specs.Format.Result.{elements}
-use Rattle.leb128.specs.declared.Refusal.{Refusal}
 use Rattle.sheet.specs.Limits.{magic}
 use Rattle.sheet.specs.Grammar.{sheet}
 use Rattle.sheet.specs.laws.Sheets.{read-accepted}
@@ -20,7 +18,7 @@ use Rattle.drawing.specs.laws.Proper.{Proper, accepts-proper}
 use Rattle.drawing.specs.laws.Unique.{leftmost-unique, total-small}
 use Rattle.drawing.specs.laws.Rows.{Outcome, Says, Row, Holds}
 use Rattle.engine.specs.Refusals.{none-exists}
-use Rattle.engine.specs.Draws.{Drawn, Room, NoDrawing, Refuses, Returns, DrawsSheet, Draws}
+use Rattle.engine.specs.Draws.{Drawn, Room, NoDrawing, Refuses, DrawsSheet, Draws}
 use Rattle.engine.specs.Draws.Refuses.{few-places, few-numbers, none, passes}
 
 -- the answer of a row, and its places

@@ -1,5 +1,5 @@
--- Complementary slackness as differences: a tight arc says at most two things, that its tension is at most the kink unless the flow
--- is the high limit, and at least the kink unless it is the low limit.
+-- Complementary slackness as differences: a tight arc says at most two things, that its tension is at most the kink
+-- unless the flow is the high limit, and at least the kink unless it is the low limit.
 use Prim.Native.Nat.{ℕ, zero, suc, _≤_, zero-le}
 use mathlib.Core.Bool.{not}
 use mathlib.Core.List.{List}

@@ -1,5 +1,5 @@
--- Duality, from one identity: the total of feasible potentials is the bound of any flows that meet the rules, and the slacks of the
--- arcs more.
+-- Duality, from one identity: the total of feasible potentials is the bound of any flows that meet the rules, and the
+-- slacks of the arcs more.
 use Prim.Native.Nat.{ℕ}
 use mathlib.Core.Path.{_≡_, sym, _∙_, ap, subst}
 use mathlib.Core.Bool.{Bool}
@@ -97,7 +97,8 @@ tight-feasible N y p size t = record {
 pub equal-least : (N : Network) (y p : List ℤ) → T (rules N y) → Feasible N p → total N p ≡ bound N y → Least N p
 equal-least N y p rule d e = record { feasible = d; least = λ q dq. rw e (weak-duality N y q rule dq) }
 
--- with such flows in hand the least potentials are those in complementary slackness, so the leftmost of these are the leftmost least
+-- with such flows in hand the least potentials are those in complementary slackness, so the leftmost of these are the
+-- leftmost least
 pub tight-leftmost : (N : Network) (y p : List ℤ) → T (rules N y) → length p ≡ N .nodes → T (complementary N y p)
     → ((q : List ℤ) → length q ≡ N .nodes → T (complementary N y q) → (v : ℕ) → potential p v ≤ℤ potential q v) → LeftmostLeast N p
 tight-leftmost N y p rule size t first =

@@ -1,8 +1,8 @@
 -- Where each node hangs on ground, by an arc that keeps it right of ground or of an earlier node, no feasible potential is
 -- negative: by induction on the node.
 use Prim.Native.Nat.{ℕ, zero, suc, _+_, _≤_, _<_}
-use mathlib.Core.Path.{_≡_, refl, sym, ap, ap₂, subst}
-use mathlib.Core.Bool.{Bool, false, _&&_}
+use mathlib.Core.Path.{_≡_, refl, ap₂, subst}
+use mathlib.Core.Bool.{Bool}
 use mathlib.Core.List.{List, [], _∷_, _++_, map}
 use mathlib.Core.Logic.{_⊎_, inl, inr}
 use native.Mathlib.Decide.{decLt}
@@ -12,7 +12,7 @@ use lib.IntN.{ℤ, pos, negsuc, negℤ, _-ℤ_}
 use lib.ListN.{List·getD-eq-default}
 use lib.Signed.{_≤ℤ_, leZ-yes}
 use Rattle.network.specs.Sums.{all}
-use Rattle.network.specs.Network.{Limit, unlimited, limit, Arc, Network, potential, integers, past-kink, legal, legal-at, Feasible}
+use Rattle.network.specs.Network.{unlimited, Arc, Network, potential, integers, past-kink, legal, legal-at, Feasible}
 use Rattle.network.specs.laws.IntegerParts.{up, down, le-parts, sum-parts, up-neg, down-neg, min-parts}
 use Rattle.network.specs.laws.Tests.{and-left, and-right, all-append}
 

@@ -1,5 +1,5 @@
--- An integer as a difference of two natural numbers, `up z` − `down z`. So an order or an equation of integers is one of natural
--- numbers, which `omega` proves.
+-- An integer as a difference of two natural numbers, `up z` − `down z`. So an order or an equation of integers is one of
+-- natural numbers, which `omega` proves.
 use Prim.Native.Nat.{ℕ, zero, suc, _+_, _-_, _≤_, _<_, min}
 use mathlib.Core.Path.{_≡_, refl, ap}
 use mathlib.Core.Bool.{true, false, not, cond}

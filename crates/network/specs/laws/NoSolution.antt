@@ -1,4 +1,5 @@
--- Flows that show that a network has no feasible potentials: weak duality where all finite slopes are 0, so that every total is 0.
+-- Flows that show that a network has no feasible potentials: weak duality where all finite slopes are 0, so that every
+-- total is 0.
 use Prim.Native.Nat.{zero, suc}
 use mathlib.Core.Path.{_≡_, refl, sym, _∙_, subst}
 use mathlib.Core.Bool.{Bool, _&&_}

@@ -1,7 +1,7 @@
--- Potentials are legal on packed arcs exactly where they meet the arcs' constraints in natural numbers: an arc is off its kink by a
--- difference whose two parts are the two sides of its constraint.
-use Prim.Native.Nat.{ℕ, zero, suc, _+_, _-_, _≤_, _<_}
-use mathlib.Core.Path.{_≡_, refl, ap, _∙_, sym, subst}
+-- Potentials are legal on packed arcs exactly where they meet the arcs' constraints in natural numbers: an arc is off its
+-- kink by a difference whose two parts are the two sides of its constraint.
+use Prim.Native.Nat.{ℕ, zero, suc, _+_, _≤_}
+use mathlib.Core.Path.{_≡_, refl, subst}
 use mathlib.Core.Bool.{Bool, true, false, cond}
 use mathlib.Core.List.{List}
 use native.Mathlib.Decide.{ℕ-discrete}
@@ -10,7 +10,7 @@ use borrow.Author.Tests.{eq-eqb, ne-eqb}
 use lib.Dec.{T, eqb}
 use lib.IntN.{ℤ, pos, negsuc, negℤ, _-ℤ_}
 use lib.ListN.{List·getD-map}
-use Rattle.network.specs.Network.{Limit, unlimited, limit, finite, Arc, potential, integers, past-kink, legal-at, legal}
+use Rattle.network.specs.Network.{unlimited, limit, finite, Arc, potential, integers, past-kink, legal-at, legal}
 use Rattle.network.specs.Packed.{kink-zero, flow-zero, low-none, high-none, low-of, high-of, arc-at}
 use Rattle.network.specs.Net.{at, Net, tail, head, kink, low, high, HardHigh, HardLow, stands, asks}
 use Rattle.network.specs.laws.IntegerParts.{up, down, sum-parts, up-neg, down-neg, min-parts}

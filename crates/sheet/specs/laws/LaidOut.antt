@@ -1,7 +1,7 @@
 -- The numbers of a good sheet stand where the layout says: layer after layer, then the count of edges, then the edges,
 -- which end the list; and the counts of layers, nodes and edges are within their limits.
 use Prim.Native.Nat.{ℕ, zero, suc, _+_, _-_, _*_, _≤_, min}
-use mathlib.Core.Path.{_≡_, refl, sym, _∙_, ap}
+use mathlib.Core.Path.{_≡_, refl, _∙_, ap}
 use mathlib.Core.List.{List, [], _∷_, _++_}
 use native.Mathlib.Omega.{arith}
 use lib.ListN.{length, getD, drop, length-drop}
@@ -12,7 +12,7 @@ use Rattle.leb128.specs.laws.EachNumber.{within-limits}
 use Rattle.leb128.specs.laws.AcceptedNumbers.{Accepts}
 use Rattle.leb128.specs.laws.AcceptedNumbers.Accepts.{nil, one}
 use Rattle.sheet.specs.Limits.{max-width, max-layers, max-layer-nodes, max-nodes, max-edges}
-use Rattle.sheet.specs.Layout.{width-at, layers-at, first-layer-at, nodes-at, separation-stride, layer-size, next-layer, behind-layers, nodes-of, edges-at, edge-stride, node-count, edge-part, edge-count}
+use Rattle.sheet.specs.Layout.{width-at, layers-at, nodes-at, separation-stride, layer-size, behind-layers, nodes-of, edges-at, edge-stride, node-count, edge-part, edge-count}
 use Rattle.sheet.specs.Grammar.{separation, separations, layers, edge, edges, sheet}
 
 -- the first number meets its rule, and what follows it is accepted

@@ -1,4 +1,5 @@
--- `difference::raise::raise_head` meets its contract. The arc's constraint is asked of every solution, so one step of raising keeps what is known.
+-- `difference::raise::raise_head` meets its contract. The arc's constraint is asked of every solution, so one step of
+-- raising keeps what is known.
 use Rattle.difference.proofs.laws.Passes.{head-relaxing, head-raised}
 use native.Mathlib.Omega.{arith}
 use borrow.Author.Needs.{needs}

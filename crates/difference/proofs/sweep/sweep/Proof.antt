@@ -1,4 +1,5 @@
--- `difference::sweep::sweep` meets its contract. `Running` holds before each pass; after as many passes as nodes that raise a value no solution is left.
+-- `difference::sweep::sweep` meets its contract. `Running` holds before each pass; after as many passes as nodes that
+-- raise a value no solution is left.
 use Rattle.network.specs.Net.{net}
 use Rattle.difference.proofs.laws.Runs.{Running, begins, changed, solved, stops, over}
 use lib.ListN.{length}

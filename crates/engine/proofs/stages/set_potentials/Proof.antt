@@ -7,7 +7,6 @@ use borrow.Author.Needs.{needs}
 use lib.ListN.{length, getD, set, length-set}
 use Rattle.engine.specs.inside.Stages.{potentials-to}
 use Rattle.circulation.specs.Nodes.{node-stride}
-use Rattle.network.specs.Net.{at}
 use Rattle.engine.proofs.laws.Potentials.{potentials-none, potentials-next}
 use Rattle.engine.proofs.stages.set_potentials.Statement.{statement}
 use Rattle.engine.proofs.stages.set_potentials.Tie as tie
