@@ -8,4 +8,4 @@ pub mod AcceptedNumbers
 pub mod GoodFormat
 pub mod OneToOne
 pub mod FirstBytes
-pub mod WriterRefusals
+pub mod RefusalsGiven

@@ -1,14 +1,16 @@
 -- What holds of sheets, by the laws of any format at the sheet's magic and grammar: one to one, the bounds, the first
--- bytes, the writer's refusals.
+-- bytes, the refusals of writer and reader.
 use Prim.Native.Nat.{ℕ, _+_, _≤_}
 use mathlib.Core.Path.{_≡_, sym, _∙_, ap}
 use mathlib.Core.List.{List, _++_}
+use mathlib.Core.Logic.{inl, inr, ⊎-elim}
 use native.Mathlib.Omega.{arith}
 use lib.ListN.{length, take}
+use Rattle.leb128.specs.Refusals.{slice-short}
 use Rattle.leb128.specs.Grammar.{Form, Rule}
 use Rattle.leb128.specs.Source.{Source}
 use Rattle.leb128.specs.Walk.{asked}
-use Rattle.leb128.specs.Format.{Outcome, encoded, reading, writing, answered}
+use Rattle.leb128.specs.Format.{Result, Outcome, encoded, reading, writing, answered}
 use Rattle.leb128.specs.Format.Result.{elements}
 use Rattle.leb128.specs.laws.DecodeEncode.{AreBytes}
 use Rattle.leb128.specs.laws.EachNumber.{each-map, most-asked as format-most-asked}
@@ -16,12 +18,12 @@ use Rattle.leb128.specs.laws.AcceptedNumbers.{Accepts, chain-accepts, most-numb
 use Rattle.leb128.specs.laws.GoodFormat.{good-reading, good-writing}
 use Rattle.leb128.specs.laws.OneToOne.{Fits, accepted-written as format-accepted-written, read-written as format-read-written, write-read as format-write-read}
 use Rattle.leb128.specs.laws.FirstBytes.{front-reading, most-bytes as format-most-bytes}
-use Rattle.leb128.specs.laws.WriterRefusals.{writer-gives}
+use Rattle.leb128.specs.laws.RefusalsGiven.{reader-gives, writer-gives}
 use Rattle.leb128.specs.declared.Refusal.{Refusal}
 use Rattle.sheet.specs.Limits.{magic, max-numbers, max-bytes}
 use Rattle.sheet.specs.Grammar.{sheet}
 use Rattle.sheet.specs.laws.SheetNumbers.{SheetNumber, WriterRefusal, each-sheet}
-use Rattle.sheet.specs.laws.SheetNumbers.WriterRefusal.{ended, follows, short}
+use Rattle.sheet.specs.laws.SheetNumbers.WriterRefusal.{ended, outside, apart, follows, short}
 use Rattle.sheet.specs.laws.LaidOut.{LaidOut, laid-out}
 
 -- the form holds each number
@@ -75,3 +77,17 @@ read-alike one other e = sym (first-bytes one) ∙ (ap (reading magic sheet) e �
 -- the writer gives refusals 1, 4, 5, 6 and 7 only
 pub writer-refusals : (numbers : List ℕ) (room : ℕ) (r : Refusal) → answered room (writing magic sheet numbers) ≡ Outcome.refused r → WriterRefusal (r .number)
 writer-refusals = writer-gives WriterRefusal ended follows short (each-map (λ form rule p. p .gives) each-sheet) magic
+
+-- none of these is above 7
+writer-small : {n : ℕ} → WriterRefusal n → n ≤ slice-short
+writer-small ended = omega arith
+writer-small outside = omega arith
+writer-small apart = omega arith
+writer-small follows = omega arith
+writer-small short = omega arith
+
+-- nor is a refusal of the reader
+pub reader-refusals : (bytes : List ℕ) (r : Refusal) → reading magic sheet bytes ≡ Result.refused r → r .number ≤ slice-short
+reader-refusals =
+    reader-gives (λ n. n ≤ slice-short) (omega arith) (omega arith) (omega arith) (omega arith)
+    (each-map (λ form rule p n. ⊎-elim (λ (z : rule n ≡ 0). inl z) (λ (w : WriterRefusal (rule n)). inr (writer-small w)) (p .gives n)) each-sheet) magic

@@ -1,0 +1,47 @@
+-- The checker refuses with 1 to 7 only, never with 8 or 9: its refusals are those of reading and of slices that are too short.
+use Prim.Native.Nat.{ℕ, _≤_}
+use mathlib.Core.Path.{_≡_, refl, sym, _∙_, subst}
+use mathlib.Core.Bool.{Bool, true, false, cond}
+use mathlib.Core.List.{List}
+use native.Mathlib.Omega.{arith}
+use lib.Dec.{ltb}
+use lib.IntN.{ℤ}
+use lib.ListN.{length, take}
+use Rattle.leb128.specs.Refusals.{slice-short}
+use Rattle.leb128.specs.Source.{refusal}
+use Rattle.leb128.specs.Format.{Result, reading}
+use Rattle.leb128.specs.Format.Result.{elements}
+use Rattle.leb128.specs.declared.Refusal.{Refusal}
+use Rattle.sheet.specs.Limits.{magic}
+use Rattle.sheet.specs.Grammar.{sheet}
+use Rattle.sheet.specs.laws.Sheets.{reader-refusals}
+use Rattle.drawing.specs.Sheet.{sheet-of}
+use Rattle.drawing.specs.Certificate.{certificate-size}
+use Rattle.drawing.specs.Judged.{judged}
+use Rattle.checker.specs.Verdict.{Judgement, said, decided, judge-numbers, check-answer}
+
+-- a decision is no refusal
+said-not : (b : Bool) (r : Refusal) → said b ≡ Judgement.refused r → ⊥
+unfolding said
+said-not true r e = let z : _≡_ {A = ℕ} 0 1 = cc in omega arith
+said-not false r e = let z : _≡_ {A = ℕ} 0 1 = cc in omega arith
+
+-- two tests of length, then a decision
+tests-refused : (few short decision : Bool) (r : Refusal)
+    → cond few (Judgement.refused (refusal slice-short 0)) (cond short (Judgement.refused (refusal slice-short 0)) (said decision)) ≡ Judgement.refused r
+    → r .number ≤ slice-short
+tests-refused true short decision r e = let is-r : r ≡ refusal slice-short 0 = cc in rw is-r (omega arith)
+tests-refused false true decision r e = let is-r : r ≡ refusal slice-short 0 = cc in rw is-r (omega arith)
+tests-refused false false decision r e = absurd (said-not decision r e)
+
+-- what the checker refuses
+pub check-refusals : (bytes places : List ℕ) (list : List ℤ) (r : Refusal) → check-answer (reading magic sheet bytes) places list ≡ Judgement.refused r
+    → r .number ≤ slice-short
+unfolding check-answer judge-numbers decided
+check-refusals bytes places list r e = go (reading magic sheet bytes) refl e
+  where
+    go : (read : Result) → reading magic sheet bytes ≡ read → check-answer read places list ≡ Judgement.refused r → r .number ≤ slice-short
+    go (elements numbers) i e =
+        tests-refused (ltb (length places) (sheet-of numbers .nodes)) (ltb (length list) (certificate-size (sheet-of numbers)))
+        (judged (sheet-of numbers) (take (sheet-of numbers .nodes) places) (take (certificate-size (sheet-of numbers)) list)) r e
+    go (Result.refused s) i e = let is-r : s ≡ r = cc in rw (sym is-r) (reader-refusals bytes s i)
