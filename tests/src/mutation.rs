@@ -37,6 +37,17 @@ pub fn doubled<T: Copy + PartialEq>(list: &[T]) -> Vec<Vec<T>> {
     results
 }
 
+/// The bytes of a sheet damaged in every way, with the name of each way.
+pub fn damages(bytes: &[u8], changes: fn(u8) -> Vec<u8>) -> [(&'static str, Vec<Vec<u8>>); 4] {
+    let appended = [bytes, &[0x01]].concat();
+    [
+        ("cut off at every byte: refused", truncated(bytes)),
+        ("one byte appended: refused", vec![appended]),
+        ("one byte changed", changed(bytes, changes)),
+        ("one byte doubled", doubled(bytes)),
+    ]
+}
+
 /// The list with two different neighbours exchanged.
 pub fn exchanged<T: Copy + PartialEq>(list: &[T]) -> Vec<Vec<T>> {
     let mut results = Vec::new();

@@ -2,8 +2,8 @@
 use crate::layout::NODE_STRIDE;
 use crate::layout::POTENTIAL_ZERO;
 use crate::nodes::POTENTIAL;
-use crate::nodes::clear;
 use crate::nodes::count_of;
+use crate::nodes::fill;
 use crate::nodes::get;
 use crate::nodes::put;
 ghost use mathlib.Core.Path.{_≡_};
@@ -48,7 +48,7 @@ fn clear_others(nodes: &mut [u32])
 {
     let mut k = 1;
     while k < NODE_STRIDE {
-        clear(nodes, k);
+        fill(nodes, k, 0);
         k += 1;
     }
 }

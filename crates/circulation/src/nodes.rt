@@ -48,16 +48,16 @@ pub fn put(nodes: &mut [u32], v: usize, k: usize, a: usize)
     nodes[NODE_STRIDE * v + k] = a as u32;
 }
 
-// Number k of every node is 0.
-pub fn clear(nodes: &mut [u32], k: usize)
-    requires { ⌜ (size (now nodes) ≤ most-nodes) × (k < 6) ⌝ }
-    ensures { λ _. ⌜ ((v : ℕ) → at (column k (now (nodes .exit))) v ≡ 0) ⌝ }
+// Number k of every node is a.
+pub fn fill(nodes: &mut [u32], k: usize, a: usize)
+    requires { ⌜ (size (now nodes) ≤ most-nodes) × (k < 6) × (a < 4294967296) ⌝ }
+    ensures { λ _. ⌜ ((v : ℕ) → v < size (now (nodes .entry)) → at (column k (now (nodes .exit))) v ≡ a) ⌝ }
     ensures { λ _. ⌜ Apart k (now (nodes .entry)) (now (nodes .exit)) ⌝ }
 {
     let n = count_of(nodes);
     let mut v = 0;
     while v < n {
-        put(nodes, v, k, 0);
+        put(nodes, v, k, a);
         v += 1;
     }
 }

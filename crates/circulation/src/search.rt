@@ -14,8 +14,8 @@ use crate::nodes::NEED_ZERO;
 use crate::nodes::PARENT;
 use crate::nodes::RANK;
 use crate::nodes::ROOM;
-use crate::nodes::clear;
 use crate::nodes::count_of;
+use crate::nodes::fill;
 use crate::nodes::get;
 use crate::nodes::least;
 use crate::nodes::put;
@@ -89,7 +89,7 @@ fn begin(nodes: &mut [u32], s: usize, room: usize)
     requires { ⌜ (size (now nodes) ≤ most-nodes) × (s < size (now nodes)) × (room < 4294967296) ⌝ }
     ensures { λ _. ⌜ Begun s room (now (nodes .entry)) (now (nodes .exit)) ⌝ }
 {
-    clear(nodes, RANK);
+    fill(nodes, RANK, 0);
     put(nodes, s, RANK, 1);
     put(nodes, s, ROOM, room);
 }

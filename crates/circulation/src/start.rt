@@ -10,7 +10,7 @@ use crate::limits::NO_FLOW;
 use crate::nodes::NEED;
 use crate::nodes::NEED_ZERO;
 use crate::nodes::POTENTIAL;
-use crate::nodes::count_of;
+use crate::nodes::fill;
 use crate::nodes::get;
 use crate::nodes::put;
 use network::layout::KINK_ZERO;
@@ -73,7 +73,7 @@ pub fn count_need(arcs: &[u32], flows: &[u32], nodes: &mut [u32])
     ensures { λ _. ⌜ ((v : ℕ) → v < size (now (nodes .entry)) → at (needs (now (nodes .exit))) v + inflow (net (now (arcs .entry)) (length (now (flows .entry)))) (length (now (flows .entry))) (at (now (flows .entry))) v ≡ need-zero + outflow (net (now (arcs .entry)) (length (now (flows .entry)))) (length (now (flows .entry))) (at (now (flows .entry))) v) ⌝ }
     ensures { λ _. ⌜ Apart 1 (now (nodes .entry)) (now (nodes .exit)) ⌝ }
 {
-    level(nodes);
+    fill(nodes, NEED, NEED_ZERO);
     let mut i = 0;
     while i < flows.len() {
         let t = tail_of(arcs, i);
@@ -81,20 +81,6 @@ pub fn count_need(arcs: &[u32], flows: &[u32], nodes: &mut [u32])
         charge(nodes, t, h, flow_of(flows, i));
         charge(nodes, h, t, NO_FLOW);
         i += 1;
-    }
-}
-
-// The need of a node at which nothing flows.
-fn level(nodes: &mut [u32])
-    requires { ⌜ size (now nodes) ≤ most-nodes ⌝ }
-    ensures { λ _. ⌜ ((v : ℕ) → v < size (now (nodes .entry)) → at (needs (now (nodes .exit))) v ≡ need-zero) ⌝ }
-    ensures { λ _. ⌜ Apart 1 (now (nodes .entry)) (now (nodes .exit)) ⌝ }
-{
-    let n = count_of(nodes);
-    let mut v = 0;
-    while v < n {
-        put(nodes, v, NEED, NEED_ZERO);
-        v += 1;
     }
 }
 

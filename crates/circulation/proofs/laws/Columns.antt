@@ -82,13 +82,13 @@ module _ {k a : ℕ} {nodes₀ : List ℕ} where
         (ap (λ (o : List ℕ). at o v) (s .same) ∙ getD-set-same (column k nodes) v a 0 (omega (arith, column-length k nodes, f .only .length-same)));
   }
 
--- everywhere, where a is 0
-pub fill-zeros : {k : ℕ} {nodes₀ nodes : List ℕ} {v : ℕ} → Filling k 0 nodes₀ nodes v → length nodes₀ / node-stride ≤ v → (u : ℕ) → at (column k nodes) u ≡ 0
-fill-zeros {k} {nodes₀} {nodes} {v} f past u = go (decLt u v)
+-- a column that is filled with 0 is 0 everywhere
+pub fill-zeros : {k : ℕ} {old new : List ℕ} → ((v : ℕ) → v < length old / node-stride → at (column k new) v ≡ 0) → Apart k old new → (u : ℕ) → at (column k new) u ≡ 0
+fill-zeros {k} {old} {new} f a u = go (decLt u (length old / node-stride))
   where
-    go : Dec (u < v) → at (column k nodes) u ≡ 0
-    go (yes l) = f .filled u l
-    go (no out) = column-past k nodes u (omega (arith, f .only .length-same))
+    go : Dec (u < length old / node-stride) → at (column k new) u ≡ 0
+    go (yes l) = f u l
+    go (no out) = column-past k new u (omega (arith, a .length-same))
 
 -- three stores at a node
 pub reaches : {v rank parent room : ℕ} {old one two new : List ℕ} → Stored 2 v rank old one → Stored 3 v parent one two → Stored 4 v room two new → Reaches v rank parent room old new

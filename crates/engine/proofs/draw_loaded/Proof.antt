@@ -1,7 +1,8 @@
 -- `engine::draw_loaded` meets its contract: slices that are too short are refused, and the room suffices for every sheet.
 use native.Mathlib.Omega.{arith}
 use Rattle.engine.proofs.laws.Fits.{nodes-few, arcs-few}
-use Rattle.engine.proofs.laws.Draw.{few-places-drawn, few-numbers-drawn, front-length}
+use Rattle.engine.proofs.laws.Draw.{few-places-drawn, few-numbers-drawn}
+use Rattle.checker.proofs.laws.Parts.{front-length}
 use borrow.Author.Needs.{needs}
 use Rattle.engine.proofs.draw_loaded.Statement.{statement}
 use Rattle.engine.proofs.draw_loaded.Tie as tie

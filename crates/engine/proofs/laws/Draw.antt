@@ -1,12 +1,12 @@
 -- The contract's cases: refusals of a good sheet, what the solver of flows leaves, and the refusals of reading.
-use Prim.Native.Nat.{ℕ, _+_, _-_, _*_, _/_, _≤_, _<_}
+use Prim.Native.Nat.{ℕ, _+_, _*_, _/_, _≤_, _<_}
 use mathlib.Core.Path.{_≡_, refl, sym, subst}
 use mathlib.Core.Bool.{Bool, true, false}
 use mathlib.Core.List.{List}
 use native.Mathlib.Omega.{arith}
 use lib.Dec.{T}
 use lib.IntN.{ℤ}
-use lib.ListN.{length, take, length-take}
+use lib.ListN.{length}
 use Rattle.leb128.specs.Refusals.{slice-short}
 use Rattle.leb128.specs.Source.{refusal}
 use Rattle.leb128.specs.Format.{Result, reading}
@@ -85,10 +85,6 @@ not-started a m n nodes false g e = g
 pub is-started : (a : List ℕ) (m n : ℕ) (nodes : List ℕ) (b : Bool) → Started a m n nodes b → b ≡ true → Valid (net a m) n (potentials nodes)
 is-started a m n nodes true g e = g
 is-started a m n nodes false g e = absurd (subst T (sym e) tt)
-
--- the length of a slice's front
-pub front-length : (k : ℕ) (l : List ℕ) → k ≤ length l → length (take (k - 0) l) ≡ k
-front-length k l h = omega (arith, length-take (k - 0) l)
 
 -- the refusal of reading
 pub refused-drawn : (bytes p : List ℕ) (y : List ℤ) {r : Refusal} → reading magic sheet bytes ≡ Result.refused r

@@ -35,6 +35,7 @@ use Rattle.arcs.specs.Lengths.{lengths-of}
 use Rattle.arcs.specs.laws.SheetLengths.{drawing-total}
 use Rattle.arcs.specs.declared.Counts.{Counts}
 use Rattle.arcs.specs.laws.Held.{Holds, proper, size-is, network-is, edges-front}
+use Rattle.checker.proofs.laws.Parts.{less-none}
 use Rattle.engine.specs.Draws.{Returns}
 use Rattle.engine.specs.inside.Filling.{filled}
 use Rattle.engine.specs.inside.Results.{place-at, number-at, Places, Flows}
@@ -165,9 +166,6 @@ module _ {a : List ℕ} {c : Counts} (h : Holds a c) (flows nodes : List ℕ) (f
         (ap (λ (k : ℕ). take k p′) (less-none (c .nodes) ∙ h .nodes-are) ∙ front)
         (ap (λ (k : ℕ). take k a) (less-none (stride * c .edges)) ∙ edges-front h)
         ∙ drawing-total S p (proper h) (drawing-is .is-least .drawing)
-      where
-        less-none : (n : ℕ) → n - 0 ≡ n
-        less-none n = omega arith
 
     -- what the contract says
     pub returned : (r : ℕ) → r ≡ min u32-most (lengths-of (take (c .nodes - 0) p′) (take (stride * c .edges - 0) a)) → Returns S p₀ y₀ p′ y′ r

@@ -10,7 +10,7 @@ use lib.Dec.{T}
 use lib.IntN.{ℤ, pos, negsuc, _-ℤ_}
 use Rattle.network.specs.Sums.{all}
 use Rattle.network.specs.Network.{limit, Arc, Network}
-use Rattle.network.specs.Packed.{stride, tail-at, head-at, kink-at, low-at, high-at, kink-zero, flow-zero, low-none, high-none, low-of, high-of, arc-at, network-of}
+use Rattle.network.specs.Packed.{stride, head-at, kink-at, low-at, high-at, kink-zero, flow-zero, low-none, high-none, low-of, high-of, arc-at, network-of}
 use Rattle.network.specs.Net.{at, net}
 use Rattle.network.specs.laws.IntegerParts.{up, down}
 use Rattle.network.specs.laws.Sizes.{size-parts}
@@ -80,10 +80,6 @@ module _ {a : List ℕ} {c : Counts} (h : Holds a c) where
   -- the head of an arc is a node or ground
   pub head-in : (i : ℕ) → i < c .arcs → at a (stride * i + head-at) < c .nodes + 1
   head-in i l = near-at i l .head
-
-  -- the tail too
-  pub tail-in : (i : ℕ) → i < c .arcs → at a (stride * i + tail-at) < c .nodes + 1
-  tail-in i l = near-at i l .tail
 
   -- the kink of an arc
   kink-in : (i : ℕ) → i < c .arcs → (1 ≤ at a (stride * i + kink-at)) × (at a (stride * i + kink-at) < 2 * kink-zero)

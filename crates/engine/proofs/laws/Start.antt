@@ -9,20 +9,17 @@ use native.Mathlib.Omega.{arith}
 use lib.ListN.{length, take, length-take, List·getD-eq-default}
 use lib.Seq.{getD-take}
 use Rattle.leb128.specs.laws.Cases.{lt-or-le, eq-or-ne}
-use Rattle.network.specs.Network.{integers, legal}
-use Rattle.network.specs.Packed.{stride, tail-at, head-at, arc-at}
 use Rattle.network.specs.Net.{at, net}
-use Rattle.network.specs.laws.Indexed.{upto-all}
-use Rattle.network.specs.laws.PackedLegal.{Meets, legal-meets}
 use Rattle.difference.specs.Solutions.{Solves, Means}
 use Rattle.difference.specs.declared.Answer.{Answer}
 use Rattle.difference.specs.declared.Answer.the-variants.{Solved, NoSolution, Malformed}
 use Rattle.circulation.specs.Nodes.{node-stride, potentials}
 use Rattle.circulation.specs.Input.{Valid}
+use Rattle.circulation.specs.laws.Feasible.{feasible-stored}
 use Rattle.arcs.specs.declared.Counts.{Counts}
 use Rattle.arcs.specs.laws.Held.{Holds}
 use Rattle.engine.specs.inside.Stages.{potentials-to, found, Started}
-use Rattle.engine.proofs.laws.Fits.{nodes-few, tail-in, head-in, difference-takes, circulation-takes}
+use Rattle.engine.proofs.laws.Fits.{nodes-few, difference-takes, circulation-takes}
 use Rattle.engine.proofs.laws.Rooted.{rooted}
 use Rattle.engine.proofs.laws.Potentials.{potential-is, potential-behind}
 
@@ -47,13 +44,9 @@ module _ {a : List ℕ} {c : Counts} (h : Holds a c) (values nodes : List ℕ) (
   abbrev ready : List ℕ
   ready = potentials-to (c .nodes + 1) values nodes
 
-  -- the potential at an end of an arc
+  -- the potential of a node, or ground
   end-is : (u : ℕ) → u < c .nodes + 1 → at (potentials ready) u ≡ at q u
   end-is u l = potential-is (c .nodes + 1) values nodes size u l ∙ sym (same u l)
-
-  -- the values meet the constraints of an arc
-  met : (i : ℕ) → i < c .arcs → Meets (net a (c .arcs)) (at q) i
-  met i l = legal-meets (net a (c .arcs)) q i (upto-all (legal (integers q)) (c .arcs) (arc-at a) (g .lowest .feasible .legals) i l)
 
   -- a start
   pub valid-start : Valid (net a (c .arcs)) (c .nodes + 1) (potentials ready)
@@ -64,10 +57,7 @@ module _ {a : List ℕ} {c : Counts} (h : Holds a c) (values nodes : List ℕ) (
         (λ (l : v < c .nodes + 1). omega (arith, potential-is (c .nodes + 1) values nodes size v l, g .small v l, nodes-few h))
         (λ (past : c .nodes + 1 ≤ v). omega (arith, potential-behind (c .nodes + 1) values nodes size v past))
         (lt-or-le v (c .nodes + 1));
-    feasible = record {
-      not-right = λ i l hard. omega (arith, met i l .not-right hard, end-is (at a (stride * i + tail-at)) (tail-in h i l), end-is (at a (stride * i + head-at)) (head-in h i l));
-      not-left = λ i l hard. omega (arith, met i l .not-left hard, end-is (at a (stride * i + tail-at)) (tail-in h i l), end-is (at a (stride * i + head-at)) (head-in h i l));
-    };
+    feasible = feasible-stored (net a (c .arcs)) (c .nodes + 1) (at (potentials ready)) q (circulation-takes h) end-is (g .lowest .feasible);
     rooted = rooted h;
   }
 

@@ -3,7 +3,7 @@
 use super::{Case, Group};
 use crate::document;
 use crate::draft::Draft;
-use crate::mutation::{changed, doubled, truncated};
+use crate::mutation::damages;
 use crate::sheet::{PLAIN, STRAIGHT};
 
 /// Small sheets with one byte changed, and cut off.
@@ -26,13 +26,7 @@ fn add(group: &mut Group, name: &str, draft: &Draft, changes: fn(u8) -> Vec<u8>)
     let bytes = draft.bytes();
     group.note(&format!("{name}: yes"));
     group.check_tight(&case);
-    let appended = [&bytes[..], &[0x01]].concat();
-    for (kind, damaged) in [
-        ("cut off at every byte: refused", truncated(&bytes)),
-        ("one byte appended: refused", vec![appended]),
-        ("one byte changed", changed(&bytes, changes)),
-        ("one byte doubled", doubled(&bytes)),
-    ] {
+    for (kind, damaged) in damages(&bytes, changes) {
         group.note(&format!("{name}, {kind}"));
         for bytes in damaged {
             group.check_bytes(&bytes, &case.places, &case.list);

@@ -4,7 +4,7 @@ use super::Group;
 use crate::certificate;
 use crate::document;
 use crate::draft::Draft;
-use crate::mutation::{changed, doubled, truncated};
+use crate::mutation::damages;
 use crate::sheet::{PLAIN, STRAIGHT};
 
 /// Small sheets cut off, and with one byte changed, doubled or appended.
@@ -24,14 +24,8 @@ fn add(group: &mut Group, name: &str, draft: &Draft) {
     let bytes = draft.bytes();
     let sheet = draft.sheet();
     let (places, list) = (sheet.node_count() + 1, certificate::length(&sheet) + 2);
-    let appended = [&bytes[..], &[0x01]].concat();
     let changes = |byte: u8| vec![byte.wrapping_add(1), byte ^ 0x80];
-    for (kind, damaged) in [
-        ("cut off at every byte: refused", truncated(&bytes)),
-        ("one byte appended: refused", vec![appended]),
-        ("one byte changed", changed(&bytes, changes)),
-        ("one byte doubled", doubled(&bytes)),
-    ] {
+    for (kind, damaged) in damages(&bytes, changes) {
         group.note(&format!("{name}, {kind}"));
         for bytes in damaged {
             group.draw(&bytes, places, list);

@@ -1,6 +1,7 @@
 -- `circulation::finish::clear_others` meets its contract: the numbers 1 .. k - 1 of every node are 0.
 use Rattle.circulation.specs.Nodes.{potentials, node-stride}
 use Rattle.circulation.specs.inside.Finish.{Zeroed}
+use Rattle.circulation.proofs.laws.Columns.{fill-zeros}
 use Rattle.circulation.proofs.laws.Finishes.{zeroed-start, zeroed-next}
 use lib.ListN.{length}
 use mathlib.Core.Path.{_≡_, refl, subst, _∙_}
@@ -18,8 +19,8 @@ abbrev μ-loop : tie.MeasureT-loop
 loop-holds : tie.Need-loop-holds Inv-loop μ-loop
 loop-holds c = (zeroed-start (c .before .args .nodes .now), refl, refl, omega arith, omega arith)
 
-clear-requires : tie.Need-clear-requires Inv-loop μ-loop
-clear-requires c κs = (omega (arith, c .before .before .before .before .pre, c .before .before .loop .inv .2), omega (arith, c .before .loop-test .taken))
+fill-requires : tie.Need-fill-requires Inv-loop μ-loop
+fill-requires c κs = (omega (arith, c .before .before .before .before .pre, c .before .before .loop .inv .2), omega (arith, c .before .loop-test .taken), omega arith)
 
 add-k : tie.Need-add-k Inv-loop μ-loop
 add-k c = omega (arith, c .before .before .before .before .loop-test .taken)
@@ -28,7 +29,7 @@ loop-less : tie.Need-loop-less Inv-loop μ-loop
 loop-less c = omega (arith, c .before .before .before .before .loop-test .taken)
 
 loop-again : tie.Need-loop-again Inv-loop μ-loop
-loop-again c = (zeroed-next (omega (arith, c .before .before .before .before .loop-test .taken)) (c .before .before .before .before .before .loop .inv .0) (c .before .before .clear .ensures .0) (c .before .before .clear .ensures .1), c .before .before .clear .ensures .1 .others 0 (omega arith) (λ e. omega (arith, c .before .before .before .before .before .loop .inv .3)) ∙ c .before .before .before .before .before .loop .inv .1, c .before .before .clear .ensures .1 .length-same ∙ c .before .before .before .before .before .loop .inv .2, omega arith, omega (arith, c .before .before .before .before .loop-test .taken))
+loop-again c = (zeroed-next (omega (arith, c .before .before .before .before .loop-test .taken)) (c .before .before .before .before .before .loop .inv .0) (fill-zeros (c .before .before .fill .ensures .0) (c .before .before .fill .ensures .1)) (c .before .before .fill .ensures .1), c .before .before .fill .ensures .1 .others 0 (omega arith) (λ e. omega (arith, c .before .before .before .before .before .loop .inv .3)) ∙ c .before .before .before .before .before .loop .inv .1, c .before .before .fill .ensures .1 .length-same ∙ c .before .before .before .before .before .loop .inv .2, omega arith, omega (arith, c .before .before .before .before .loop-test .taken))
 
 same-length : tie.Need-same-length Inv-loop μ-loop
 same-length c = c .before .loop .inv .2
@@ -43,7 +44,7 @@ clear-others-spec =
     Inv-loop
     μ-loop
     loop-holds
-    clear-requires
+    fill-requires
     add-k
     loop-less
     loop-again

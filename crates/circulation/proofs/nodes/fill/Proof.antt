@@ -1,20 +1,20 @@
--- `circulation::start::level` meets its contract: the loop's invariant is `Filling`.
+-- `circulation::nodes::fill` meets its contract: the loop's invariant is `Filling`.
 use lib.ListN.{length}
 use mathlib.Core.Path.{_≡_}
 use Prim.Native.Nat.{_-_, _/_, _≤_}
 use Rattle.circulation.proofs.laws.Columns.{Filling, fill-start, fill-next}
 use native.Mathlib.Omega.{arith}
 use borrow.Author.Needs.{needs}
-use Rattle.circulation.proofs.start.level.Statement.{statement}
-use Rattle.circulation.proofs.start.level.Tie as tie
-use Rattle.circulation.specs.Nodes.{node-stride, need-zero}
+use Rattle.circulation.proofs.nodes.fill.Statement.{statement}
+use Rattle.circulation.proofs.nodes.fill.Tie as tie
+use Rattle.circulation.specs.Nodes.{node-stride}
 use Rattle.circulation.specs.Limits.{most-nodes}
 
 abbrev Inv-loop : tie.InvT-loop
-Inv-loop nodes₀ n v₀ nodes v = Filling 1 need-zero nodes₀ nodes v × (n ≡ length nodes₀ / node-stride) × (n ≤ most-nodes)
+Inv-loop nodes₀ k a n v₀ nodes v = Filling k a nodes₀ nodes v × (n ≡ length nodes₀ / node-stride) × (n ≤ most-nodes)
 
 abbrev μ-loop : tie.MeasureT-loop
-μ-loop nodes₀ n v₀ nodes v = n - v
+μ-loop nodes₀ k a n v₀ nodes v = n - v
 
 count-of-requires : tie.Need-count-of-requires Inv-loop μ-loop
 count-of-requires c κs = search needs
@@ -40,8 +40,8 @@ same-length c = c .before .loop .inv .0 .only .length-same
 returns : tie.Need-returns Inv-loop μ-loop
 returns c = (λ v l. c .before .loop .inv .0 .filled v (omega (arith, c .loop-test .left, c .before .loop .inv .1)), c .before .loop .inv .0 .only)
 
-pub level-spec : {M : Type 1} → statement M
-level-spec =
+pub fill-spec : {M : Type 1} → statement M
+fill-spec =
     tie.close
     (tie.spec
     Inv-loop
