@@ -1,5 +1,5 @@
 //! The cases of the program `library_test`: lines of input, each with the line of output that
-//! this package computes.
+//! this package computes. The stored output is the program's own; the tests compare the two.
 //!
 //! A line that starts with `#` names the cases below it; the output repeats it. Any other line
 //! holds an operation letter, two numbers in four hexadecimal digits each, and a payload in
@@ -44,15 +44,12 @@ pub fn groups() -> Vec<Group> {
     groups
 }
 
-/// The names and contents of the program's files for these groups.
-pub fn files(groups: &[Group]) -> [(&'static str, String); 2] {
-    let mut input = String::new();
-    let mut output = String::new();
-    for line in groups.iter().flat_map(|group| &group.lines) {
-        input.push_str(&line.input);
-        input.push('\n');
-        output.push_str(&line.output);
-        output.push('\n');
-    }
-    [("stdin", input), ("stdout", output)]
+/// The lines of these groups, in the order of the files.
+pub fn lines(groups: &[Group]) -> impl Iterator<Item = &Line> {
+    groups.iter().flat_map(|group| &group.lines)
+}
+
+/// The program's input for these groups.
+pub fn input(groups: &[Group]) -> String {
+    lines(groups).flat_map(|line| [&line.input, "\n"]).collect()
 }

@@ -1,14 +1,16 @@
-//! The stored test cases are the ones that this package computes.
+//! The stored input of `library_test` is the cases of this package, and the stored output, which the
+//! program prints, is what this package computes.
 
 use std::fs;
 use std::path::Path;
 use std::sync::OnceLock;
 
-use second::cases::{check, draw, files, format, groups, Group};
+use second::cases::{check, draw, format, groups, input, lines, Group};
 
-/// The command that writes the stored files anew, from the root of the repository.
-const REWRITE: &str = "cd tests && CARGO_TARGET_DIR=../target/cargo \
-    cargo run --release --offline --bin cases -- ../crates/library_test";
+/// The commands that write the stored files anew, from the root of the repository.
+const REWRITE: &str = "(cd tests && CARGO_TARGET_DIR=../target/cargo \
+    cargo run --release --offline --bin cases) > crates/library_test/stdin; \
+    target/bin/library_test < crates/library_test/stdin > crates/library_test/stdout";
 
 /// All groups, computed once.
 fn all_groups() -> &'static [Group] {
@@ -22,39 +24,75 @@ fn draw_groups() -> &'static [Group] {
     GROUPS.get_or_init(draw::groups)
 }
 
-/// Checks that a stored file has the lines computed.
-fn check_stored(name: &str, computed: &str) {
+/// The output that this package computes for these groups.
+fn output(groups: &[Group]) -> String {
+    lines(groups)
+        .flat_map(|line| [&line.output, "\n"])
+        .collect()
+}
+
+/// A stored file of the program.
+fn stored(name: &str) -> String {
     let folder = Path::new(env!("CARGO_MANIFEST_DIR")).join("../crates/library_test");
     let path = folder.join(name);
-    let stored = match fs::read_to_string(&path) {
+    match fs::read_to_string(&path) {
         Ok(stored) => stored,
-        Err(error) => panic!(
-            "cannot read {}: {error}; write it with: {REWRITE}",
-            path.display()
-        ),
-    };
-    if stored == computed {
-        return;
+        Err(error) => panic!("cannot read {}: {error}", path.display()),
     }
-    let same = stored
-        .split('\n')
-        .zip(computed.split('\n'))
-        .take_while(|(stored, computed)| stored == computed)
-        .count();
-    let line = |text: &str| text.split('\n').nth(same).map(str::to_owned);
-    panic!(
-        "{name} differs at line {}\nstored: {:?}\ncomputed: {:?}\nwrite it with: {REWRITE}",
-        same + 1,
-        line(&stored),
-        line(computed),
-    );
 }
 
 #[test]
-fn stored_files_are_up_to_date() {
-    for (name, computed) in files(all_groups()) {
-        check_stored(name, &computed);
+fn stored_input_is_up_to_date() {
+    let (stored, computed) = (stored("stdin"), input(all_groups()));
+    let mut both = stored.lines().zip(computed.lines());
+    let differing = both.position(|(stored, computed)| stored != computed);
+    assert_eq!(differing, None, "write it with: {REWRITE}");
+    assert!(stored == computed, "write it with: {REWRITE}");
+}
+
+#[test]
+fn stored_output_is_what_this_package_computes() {
+    let stored = stored("stdout");
+    let count = lines(all_groups()).count();
+    assert_eq!(stored.lines().count(), count, "write it with: {REWRITE}");
+    for (i, (line, output)) in lines(all_groups()).zip(stored.lines()).enumerate() {
+        assert!(
+            line.is_answered_by(output),
+            "stdout differs at line {}\nstored: {output}\ncomputed: {}\nwrite it with: {REWRITE}",
+            i + 1,
+            line.output,
+        );
     }
+}
+
+#[test]
+fn other_totals_places_lists_and_words_are_no_answers() {
+    let mut tried = 0;
+    for line in lines(draw_groups()) {
+        let output = &line.output;
+        let Some((answer, list)) = output.split_once(';') else {
+            continue;
+        };
+        assert!(line.is_answered_by(output));
+        if !output.starts_with("total ") {
+            continue;
+        }
+        let first = list.split(' ').nth(1).expect("a list has numbers");
+        let first: i32 = first.parse().expect("a number");
+        let rest = &list[first.to_string().len() + 1..];
+        for other in [
+            output.replacen("total ", "total 1", 1),
+            output.replacen(": 0", ": 1", 1),
+            output.replace("; yes", "; no"),
+            format!("{answer}; {}{rest}", first + 1),
+            format!("{answer}; {}{rest}", first - 1),
+            format!("{answer};{rest}"),
+        ] {
+            assert!(!line.is_answered_by(&other), "{other}");
+        }
+        tried += 1;
+    }
+    assert!(tried >= 350, "{tried}");
 }
 
 #[test]
@@ -84,7 +122,7 @@ fn there_are_many_damaged_cases() {
 
 #[test]
 fn cases_are_small_enough() {
-    let [(_, input), (_, output)] = files(all_groups());
+    let (input, output) = (input(all_groups()), stored("stdout"));
     assert!(input.len() < 800_000 && output.len() < 800_000);
     assert!(input.lines().all(|line| line.len() < 32_768));
     assert!(input.is_ascii() && output.is_ascii());
@@ -110,7 +148,7 @@ fn hexadecimal(digits: &str) -> usize {
 
 #[test]
 fn lines_of_the_format_keep_the_columns() {
-    let [(_, input), _] = files(&format::groups());
+    let input = input(&format::groups());
     for [operation, room, _, payload] in parts(&input) {
         let (greatest_room, digits, greatest_count) = match &operation[..] {
             "R" => (2560, 2, 5130),
@@ -127,7 +165,7 @@ fn lines_of_the_format_keep_the_columns() {
 
 #[test]
 fn lines_of_the_checker_keep_the_columns() {
-    let [(_, input), _] = files(&check::groups());
+    let input = input(&check::groups());
     for [operation, places, numbers, payload] in parts(&input) {
         assert_eq!(operation, "C");
         let (places, numbers) = (hexadecimal(&places), hexadecimal(&numbers));
@@ -139,7 +177,7 @@ fn lines_of_the_checker_keep_the_columns() {
 
 #[test]
 fn lines_of_the_engine_keep_the_columns() {
-    let [(_, input), _] = files(draw_groups());
+    let input = input(draw_groups());
     for [operation, places, numbers, payload] in parts(&input) {
         assert_eq!(operation, "D");
         let (places, numbers) = (hexadecimal(&places), hexadecimal(&numbers));
@@ -151,7 +189,7 @@ fn lines_of_the_engine_keep_the_columns() {
 
 #[test]
 fn engine_has_many_cases_of_each_answer() {
-    let [_, (_, output)] = files(draw_groups());
+    let output = output(draw_groups());
     let count = |answer: &str| {
         let answers = output.lines().filter(|line| !line.starts_with('#'));
         answers.filter(|line| line.starts_with(answer)).count()
@@ -177,7 +215,7 @@ fn engine_has_many_cases_of_each_answer() {
 
 #[test]
 fn checker_has_many_cases_of_each_answer() {
-    let [_, (_, output)] = files(&check::groups());
+    let output = output(&check::groups());
     let count = |answer: &str| {
         let answers = output.lines().filter(|line| !line.starts_with('#'));
         answers.filter(|line| line.starts_with(answer)).count()
@@ -194,7 +232,7 @@ fn checker_has_many_cases_of_each_answer() {
 
 /// Checks that each note that ends in a word of the checker tells the word of the lines below it.
 fn check_notes(groups: &[Group], word: fn(&str) -> Option<&str>) -> usize {
-    let [_, (_, output)] = files(groups);
+    let output = output(groups);
     let mut told = 0;
     let mut note = "";
     for line in output.lines() {

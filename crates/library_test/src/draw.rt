@@ -5,40 +5,20 @@ use crate::cases::PLACES;
 use crate::hex;
 use crate::show;
 use crate::smaller;
-ghost use Prim.Native.Nat.{_<_};
-ghost use lib.ListN.{length};
 
 // What every place holds before the call: more than any width.
 const PLACE_BEFORE: u16 = 42405;
 
-// What every number of the list holds before the call: below 0, as no boundary's number is, and the last one of a sheet is one.
+// What every number of the list holds before the call.
 const NUMBER_BEFORE: i32 = -1515870811;
 
-// Whether the number of a list at an index is as before the call.
-fn is_kept(list: &[i32], i: usize) -> bool
-    requires { ⌜ i < length (now list) ⌝ }
-{
-    list[i] == NUMBER_BEFORE
-}
-
-// How many numbers at the end of a list are as before the call. The other numbers are the engine's choice, and the
-// checker tells whether they are right.
-fn kept(list: &[i32]) -> usize {
-    let mut left = list.len();
-    while left > 0 {
-        if !is_kept(list, left - 1) {
-            return list.len() - left;
-        }
-        left -= 1;
-    }
-    list.len()
-}
-
-// Draws a sheet into the slices, and prints the answer, the places, how much of the list is kept, and the checker's answer.
+// Draws a sheet into the slices, and prints the answer, the places, the list, and the checker's answer.
 fn draw_sheet(bytes: &[u8], places: &mut [u16], list: &mut [i32]) {
     show::drawing(engine::draw(bytes, places, list));
     show::numbers(places);
-    show::kept(kept(list));
+    show::text(b";");
+    show::signed_numbers(list);
+    show::text(b"; ");
     show::verdict(checker::check(bytes, places, list));
 }
 

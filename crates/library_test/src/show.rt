@@ -84,13 +84,6 @@ pub fn drawing(drawing: Drawing) {
     text(b":");
 }
 
-// Prints how many numbers of a list are kept.
-pub fn kept(count: usize) {
-    text(b"; ");
-    decimal(count);
-    text(b" kept; ");
-}
-
 // Prints a byte behind a space.
 fn byte(n: u8) {
     text(b" ");
@@ -117,6 +110,29 @@ pub fn numbers(numbers: &[u16]) {
     let mut i: usize = 0;
     while i < numbers.len() {
         number(numbers[i]);
+        i += 1;
+    }
+}
+
+// The magnitude of a signed number.
+fn magnitude(n: i32) -> u64 {
+    if n < 0 { (-1 - n) as u64 + 1 } else { n as u64 }
+}
+
+// Prints a signed number behind a space, in decimal digits.
+fn signed_number(n: i32) {
+    text(b" ");
+    if n < 0 {
+        text(b"-");
+    }
+    io::print_decimal(STDOUT_FILENO, magnitude(n));
+}
+
+// Prints the numbers of a list.
+pub fn signed_numbers(list: &[i32]) {
+    let mut i: usize = 0;
+    while i < list.len() {
+        signed_number(list[i]);
         i += 1;
     }
 }

@@ -4,10 +4,9 @@
 //! slice of list numbers, and the payload is the bytes of a sheet. Every place holds a5a5 and every
 //! list number a5a5a5a5 before the call.
 //!
-//! The answer is the total or a refusal, every place after the call, how many numbers at the end
-//! of the list slice are as before, and the word of the checker on that sheet, places and list. The
-//! numbers of the list are not shown, since document 01 leaves them open. The last one of a list
-//! is a push and not below 0, so the count of those behind it has one right answer.
+//! The answer is the total or a refusal, every place and every list number after the call, and the
+//! word of the checker on that sheet, places and list. Document 01 leaves the list of a drawing
+//! open: any list answers that the checker here accepts.
 //!
 //! A note that ends in `: yes`, `: no` or `: refused` tells the checker's word on the cases below.
 
@@ -18,6 +17,8 @@ mod line;
 mod sizes;
 mod slices;
 mod traps;
+
+pub(super) use line::Drawn;
 
 use super::{Group, Line};
 use crate::certificate;

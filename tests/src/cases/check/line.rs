@@ -15,6 +15,6 @@ impl Line {
         let counts = format!("{:04x} {:04x}", places.len(), list.len());
         let payload = digits(places, 4, "") + &digits(list, 8, "") + &digits(bytes, 2, "");
         let input = format!("C {counts} {payload}");
-        Line { input, output }
+        Line::new(input, output)
     }
 }

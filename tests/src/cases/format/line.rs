@@ -16,20 +16,18 @@ impl Line {
     pub(super) fn read(bytes: &[u8], room: usize) -> Line {
         let mut slice = vec![NUMBER_FILL; room];
         let result = sheet::read(bytes, &mut slice);
-        Line {
-            input: input('R', room, 0, &digits(bytes, 2, "")),
-            output: sheet_answer(result) + ":" + &digits(&slice, 4, " "),
-        }
+        let input = input('R', room, 0, &digits(bytes, 2, ""));
+        let output = sheet_answer(result) + ":" + &digits(&slice, 4, " ");
+        Line::new(input, output)
     }
 
     /// Writes a sheet.
     pub(super) fn write(numbers: &[u16], room: usize) -> Line {
         let mut slice = vec![BYTE_FILL; room];
         let result = sheet::write(numbers, &mut slice);
-        Line {
-            input: input('W', room, 0, &digits(numbers, 4, "")),
-            output: sheet_answer(result) + ":" + &digits(&slice, 2, " "),
-        }
+        let input = input('W', room, 0, &digits(numbers, 4, ""));
+        let output = sheet_answer(result) + ":" + &digits(&slice, 2, " ");
+        Line::new(input, output)
     }
 
     /// Reads one number.
@@ -39,7 +37,7 @@ impl Line {
             Err(refusal) => refused(refusal),
         };
         let input = input('G', 0, at, &digits(bytes, 2, ""));
-        Line { input, output }
+        Line::new(input, output)
     }
 
     /// Writes one number.
@@ -50,10 +48,9 @@ impl Line {
             Placed::NoForm => "no form".to_string(),
             Placed::NoRoom => "no room".to_string(),
         };
-        Line {
-            input: input('P', room, at, &digits(&[n], 8, "")),
-            output: answer + ":" + &digits(&slice, 2, " "),
-        }
+        let input = input('P', room, at, &digits(&[n], 8, ""));
+        let output = answer + ":" + &digits(&slice, 2, " ");
+        Line::new(input, output)
     }
 }
 
