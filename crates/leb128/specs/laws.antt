@@ -7,5 +7,6 @@ pub mod EachNumber
 pub mod AcceptedNumbers
 pub mod GoodFormat
 pub mod OneToOne
+pub mod Offsets
 pub mod FirstBytes
 pub mod RefusalsGiven

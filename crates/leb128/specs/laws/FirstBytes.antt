@@ -10,30 +10,25 @@ use lib.Seq.{take-all, take-append-le, length-take-le}
 use borrow.Author.Tests.{lt-ltb, le-ltb}
 use Rattle.leb128.specs.Limits.{number-bytes}
 use Rattle.leb128.specs.Grammar.{Form, Grammar, Rule}
-use Rattle.leb128.specs.Grammar.Form.{above}
-use Rattle.leb128.specs.Source.{Item, raised, byte-item, in-bytes}
+use Rattle.leb128.specs.Source.{in-bytes}
 use Rattle.leb128.specs.Source.Item.{value}
 use Rattle.leb128.specs.Walk.{Walk, checked, walk}
 use Rattle.leb128.specs.Walk.Walk.{whole, refused}
 use Rattle.leb128.specs.Format.{complete, walk-bytes, made, reading}
 use Rattle.leb128.specs.Format.Result.{elements}
 use Rattle.leb128.specs.laws.Cases.{lt-or-le}
-use Rattle.leb128.specs.laws.ItemCases.{ahead, front-item}
+use Rattle.leb128.specs.laws.ItemCases.{front-item}
 use Rattle.leb128.specs.laws.StepCases.{checked-value, followed-same}
 use Rattle.leb128.specs.laws.EachNumber.{Each}
 use Rattle.leb128.specs.laws.EachNumber.Each.{end, each}
 use Rattle.leb128.specs.laws.AcceptedNumbers.{Chain}
 use Rattle.leb128.specs.laws.GoodFormat.{good-bytes, good-reading}
 use Rattle.leb128.specs.laws.AcceptedNumbers.Chain.{none, more}
+use Rattle.leb128.specs.laws.Offsets.{byte-steps}
 
 -- the next position
 after-most : (form : Form) (bytes : List ℕ) (at n after : ℕ) → in-bytes bytes form at ≡ value n after → after ≤ at + number-bytes
-unfolding in-bytes raised
-after-most (above base) bytes at n after e = go (byte-item bytes at) refl e
-  where
-    go : (item : Item) → byte-item bytes at ≡ item → raised (above base) item ≡ value n after → after ≤ at + number-bytes
-    go (value m q) i e = let is-after : q ≡ after = cc in omega (arith, ahead bytes at m q i)
-    go (Item.refused r) i e = let z : _≡_ {A = ℕ} 0 1 = cc in absurd (omega arith)
+after-most form bytes at n after e = rw e at (byte-steps bytes form at)
 
 module _ {P : Form → Rule → Type 0} where
   -- the position behind m numbers

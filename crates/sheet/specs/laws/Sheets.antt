@@ -1,6 +1,6 @@
 -- What holds of sheets, by the laws of any format at the sheet's magic and grammar: one to one, the bounds, the first
--- bytes, the refusals of writer and reader.
-use Prim.Native.Nat.{ℕ, _+_, _≤_}
+-- bytes, the offsets and the refusals of writer and reader.
+use Prim.Native.Nat.{ℕ, _+_, _≤_, _<_}
 use mathlib.Core.Path.{_≡_, sym, _∙_, ap}
 use mathlib.Core.List.{List, _++_}
 use mathlib.Core.Logic.{inl, inr, ⊎-elim}
@@ -17,6 +17,7 @@ use Rattle.leb128.specs.laws.EachNumber.{each-map, most-asked as format-most-as
 use Rattle.leb128.specs.laws.AcceptedNumbers.{Accepts, chain-accepts, most-numbers as accepted-most}
 use Rattle.leb128.specs.laws.GoodFormat.{good-reading, good-writing}
 use Rattle.leb128.specs.laws.OneToOne.{Fits, accepted-written as format-accepted-written, read-written as format-read-written, write-read as format-write-read}
+use Rattle.leb128.specs.laws.Offsets.{reader-offsets as format-reader-offsets, writer-offsets as format-writer-offsets}
 use Rattle.leb128.specs.laws.FirstBytes.{front-reading, most-bytes as format-most-bytes}
 use Rattle.leb128.specs.laws.RefusalsGiven.{reader-gives, writer-gives}
 use Rattle.leb128.specs.declared.Refusal.{Refusal}
@@ -78,16 +79,28 @@ read-alike one other e = sym (first-bytes one) ∙ (ap (reading magic sheet) e �
 pub writer-refusals : (numbers : List ℕ) (room : ℕ) (r : Refusal) → answered room (writing magic sheet numbers) ≡ Outcome.refused r → WriterRefusal (r .number)
 writer-refusals = writer-gives WriterRefusal ended follows short (each-map (λ form rule p. p .gives) each-sheet) magic
 
--- none of these is above 7
-writer-small : {n : ℕ} → WriterRefusal n → n ≤ slice-short
-writer-small ended = omega arith
-writer-small outside = omega arith
-writer-small apart = omega arith
-writer-small follows = omega arith
-writer-small short = omega arith
+-- numbers of refusals that reading and writing give: 1 to 7
+abbrev pub FormatRefusal : ℕ → Type 0
+FormatRefusal n = (0 < n) × (n ≤ slice-short)
 
--- nor is a refusal of the reader
-pub reader-refusals : (bytes : List ℕ) (r : Refusal) → reading magic sheet bytes ≡ Result.refused r → r .number ≤ slice-short
+-- the writer's are among them
+pub writer-given : {n : ℕ} → WriterRefusal n → FormatRefusal n
+writer-given ended = (omega arith, omega arith)
+writer-given outside = (omega arith, omega arith)
+writer-given apart = (omega arith, omega arith)
+writer-given follows = (omega arith, omega arith)
+writer-given short = (omega arith, omega arith)
+
+-- and so are the reader's
+pub reader-refusals : (bytes : List ℕ) (r : Refusal) → reading magic sheet bytes ≡ Result.refused r → FormatRefusal (r .number)
 reader-refusals =
-    reader-gives (λ n. n ≤ slice-short) (omega arith) (omega arith) (omega arith) (omega arith)
-    (each-map (λ form rule p n. ⊎-elim (λ (z : rule n ≡ 0). inl z) (λ (w : WriterRefusal (rule n)). inr (writer-small w)) (p .gives n)) each-sheet) magic
+    reader-gives FormatRefusal (omega arith, omega arith) (omega arith, omega arith) (omega arith, omega arith) (omega arith, omega arith)
+    (each-map (λ form rule p n. ⊎-elim (λ (z : rule n ≡ 0). inl z) (λ (w : WriterRefusal (rule n)). inr (writer-given w)) (p .gives n)) each-sheet) magic
+
+-- the reader refuses at an offset of at most 5,121
+pub reader-offsets : (bytes : List ℕ) (r : Refusal) → reading magic sheet bytes ≡ Result.refused r → r .offset ≤ max-bytes
+reader-offsets = format-reader-offsets each-sheet magic
+
+-- the writer refuses at an index of at most 2,559
+pub writer-offsets : (numbers : List ℕ) (r : Refusal) → writing magic sheet numbers ≡ Result.refused r → r .offset ≤ max-numbers
+writer-offsets = format-writer-offsets each-sheet magic

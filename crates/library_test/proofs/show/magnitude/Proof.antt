@@ -1,15 +1,15 @@
 -- `library_test::show::magnitude` is safe: a number below 0 taken away from -1 is not below 0, and fits.
-use Prim.Native.Nat.{suc, _^_}
+use Prim.Native.Nat.{suc}
 use mathlib.Core.Path.{_≡_, sym, _∙_, ap, subst}
 use mathlib.Core.Bool.{true, false}
 use native.Mathlib.Nat.{not-suc-le-zero}
 use native.Mathlib.Omega.{arith}
 use lib.Dec.{T, ltb→lt}
-use lib.IntN.{ℤ, pos, negsuc, natAbs, predℤ, _-ℤ_, predℤ-+ℤ, +ℤ-idl}
+use lib.IntN.{ℤ, pos, negsuc, predℤ, _-ℤ_, predℤ-+ℤ, +ℤ-idl}
 use lib.Signed.{mag, ltZ, nonNeg}
 use mir.Facts.{toZ-ofZ, fits-natAbs}
-use mir.Syntax.{w32, w64}
-use mir.Val.{Fits, SFits, toZ, ofZ}
+use mir.Syntax.{w32}
+use mir.Val.{SFits, toZ, ofZ}
 use borrow.Author.Needs.{needs}
 use Rattle.library_test.proofs.show.magnitude.Statement.{statement}
 use Rattle.library_test.proofs.show.magnitude.Tie as tie

@@ -1,0 +1,19 @@
+-- `strip::strip_check` meets its contract: a word holds the answer of the inner call.
+use mathlib.Core.Path.{sym, _∙_, ap, subst}
+use Rattle.strip.specs.Words.{judgement-word}
+use Rattle.strip.specs.laws.Values.{HeldJudgement, checking-held}
+use borrow.Author.Needs.{needs}
+use Rattle.strip.proofs.strip_check.Statement.{statement}
+use Rattle.strip.proofs.strip_check.Tie as tie
+
+check-requires : tie.Need-check-requires
+check-requires c κs = search needs
+
+verdict-word-requires : tie.Need-verdict-word-requires
+verdict-word-requires c κs = subst HeldJudgement (sym (c .check .ensures)) (checking-held (c .before .before .before .args .bytes .now) (c .before .before .before .args .places .now) (c .before .before .before .args .list .now))
+
+returns : tie.Need-returns
+returns c = c .verdict-word .ensures ∙ ap judgement-word (c .before .check .ensures)
+
+pub strip-check-spec : {M : Type 1} → statement M
+strip-check-spec = tie.close (tie.spec check-requires verdict-word-requires returns)

@@ -1,0 +1,22 @@
+-- `strip::strip_write` meets its contract: a word holds the answer of the inner call.
+use mathlib.Core.Path.{sym, _∙_, ap, subst}
+use Rattle.strip.specs.Words.{outcome-word}
+use Rattle.strip.specs.laws.Values.{HeldOutcome, writing-held}
+use borrow.Author.Needs.{needs}
+use Rattle.strip.proofs.strip_write.Statement.{statement}
+use Rattle.strip.proofs.strip_write.Tie as tie
+
+write-requires : tie.Need-write-requires
+write-requires c κs = search needs
+
+answer-word-requires : tie.Need-answer-word-requires
+answer-word-requires c κs = subst HeldOutcome (sym (c .before .before .write .ensures .0)) (writing-held (c .before .before .before .before .before .before .args .numbers .now) _)
+
+same-length : tie.Need-same-length
+same-length c = search needs
+
+returns : tie.Need-returns
+returns c = (c .answer-word .ensures ∙ ap outcome-word (c .before .before .before .write .ensures .0), c .before .before .before .write .ensures .1)
+
+pub strip-write-spec : {M : Type 1} → statement M
+strip-write-spec = tie.close (tie.spec write-requires answer-word-requires same-length returns)

@@ -1,0 +1,113 @@
+-- A word holds every answer: each value and each offset is below 2³², since a walk ends within the longest sheet, and each
+-- refusal has a number.
+use Prim.Native.Nat.{ℕ, _≤_, _<_}
+use mathlib.Core.Path.{_≡_, refl, sym}
+use mathlib.Core.Logic.{⊎-elim}
+use mathlib.Core.List.{List}
+use native.Mathlib.Omega.{arith}
+use lib.IntN.{ℤ}
+use borrow.Author.Tests.{lt-ltb, le-ltb}
+use lib.ListN.{length}
+use Rattle.leb128.specs.declared.Refusal.{Refusal}
+use Rattle.leb128.specs.Format.{Result, Outcome, answered, reading, writing}
+use Rattle.leb128.specs.Format.Result.{elements}
+use Rattle.leb128.specs.laws.Cases.{lt-or-le}
+use Rattle.sheet.specs.Limits.{magic, max-bytes}
+use Rattle.sheet.specs.Grammar.{sheet}
+use Rattle.sheet.specs.laws.Sheets.{FormatRefusal, read-accepted, most-numbers, most-bytes, read-written, writer-refusals, writer-given, reader-refusals, reader-offsets, writer-offsets}
+use Rattle.drawing.specs.Sheet.{Sheet, sheet-of}
+use Rattle.checker.specs.Verdict.{Judgement, check-answer}
+use Rattle.checker.specs.laws.Refusals.{Given, check-refusals}
+use Rattle.engine.specs.Draws.{Drawn, Refuses, DrawsSheet, Draws}
+use Rattle.engine.specs.Draws.Refuses.{few-places, few-numbers, none, passes}
+use Rattle.strip.specs.Words.{unit}
+
+-- a refusal that a word holds
+pub record Held (r : Refusal) : Type 0 where
+  pub numbered : 0 < r .number
+  pub offset-in : r .offset < unit
+
+-- an answer of reading or writing that a word holds
+abbrev pub HeldOutcome : Outcome → Type 0
+HeldOutcome (Outcome.wrote count) = count < unit
+HeldOutcome (Outcome.refused r) = Held r
+
+-- one of drawing
+abbrev pub HeldDrawn : Drawn → Type 0
+HeldDrawn (Drawn.drawn total) = total < unit
+HeldDrawn (Drawn.refused r) = Held r
+
+-- one of checking
+abbrev pub HeldJudgement : Judgement → Type 0
+HeldJudgement Judgement.accepted = 1 < unit
+HeldJudgement Judgement.rejected = 0 < unit
+HeldJudgement (Judgement.refused r) = Held r
+
+-- a refusal of a format
+given-held : (r : Refusal) → FormatRefusal (r .number) → r .offset ≤ max-bytes → Held r
+given-held r n o = record { numbered = n .0; offset-in = omega arith }
+
+-- elements are counted, or have no room
+elements-held : (room : ℕ) (es : List ℕ) → length es < unit → HeldOutcome (answered room (elements es))
+unfolding answered
+elements-held room es h =
+    ⊎-elim
+    (λ (k : room < length es). rw (lt-ltb room (length es) k) (record { numbered = omega arith; offset-in = omega arith }))
+    (λ (k : length es ≤ room). rw (le-ltb room (length es) k) h)
+    (lt-or-le room (length es))
+
+-- a refusal is answered as it is
+refused-answer : (room : ℕ) (r : Refusal) → answered room (Result.refused r) ≡ Outcome.refused r
+unfolding answered
+refused-answer room r = refl
+
+-- and held as it is
+refused-held : (room : ℕ) (r : Refusal) → Held r → HeldOutcome (answered room (Result.refused r))
+unfolding answered
+refused-held room r h = h
+
+-- of reading
+pub reading-held : (bytes : List ℕ) (room : ℕ) → HeldOutcome (answered room (reading magic sheet bytes))
+reading-held bytes room = go (reading magic sheet bytes) refl
+  where
+    go : (read : Result) → reading magic sheet bytes ≡ read → HeldOutcome (answered room read)
+    go (elements numbers) e = elements-held room numbers (omega (arith, most-numbers numbers (read-accepted bytes numbers e)))
+    go (Result.refused r) e = refused-held room r (given-held r (reader-refusals bytes r e) (reader-offsets bytes r e))
+
+-- of writing
+pub writing-held : (numbers : List ℕ) (room : ℕ) → HeldOutcome (answered room (writing magic sheet numbers))
+writing-held numbers room = go (writing magic sheet numbers) refl
+  where
+    go : (written : Result) → writing magic sheet numbers ≡ written → HeldOutcome (answered room written)
+    go (elements bytes) e = elements-held room bytes (omega (arith, most-bytes bytes numbers (read-written numbers bytes e)))
+    go (Result.refused r) e =
+        refused-held room r (given-held r (writer-given (writer-refusals numbers room r (rw e (refused-answer room r)))) (omega (arith, writer-offsets numbers r e)))
+
+-- of a good sheet, drawn
+sheet-held : (S : Sheet) (p₀ : List ℕ) (y₀ : List ℤ) (p : List ℕ) (y : List ℤ) (d : Drawn) → DrawsSheet S p₀ y₀ p y d → HeldDrawn d
+sheet-held S p₀ y₀ p y (Drawn.drawn total) h = omega (arith, h .total-in)
+sheet-held S p₀ y₀ p y (Drawn.refused r) h = record { numbered = numbered (h .0); offset-in = omega (arith, h .1) }
+  where
+    numbered : {n : ℕ} → Refuses S (length p₀) (length y₀) n → 0 < n
+    numbered (few-places k) = omega arith
+    numbered (few-numbers k) = omega arith
+    numbered (none k l) = omega arith
+    numbered (passes q k l m) = omega arith
+
+-- of drawing
+pub drawing-held : (bytes p₀ : List ℕ) (y₀ : List ℤ) (p : List ℕ) (y : List ℤ) (d : Drawn) → Draws (reading magic sheet bytes) p₀ y₀ p y d → HeldDrawn d
+unfolding Draws
+drawing-held bytes p₀ y₀ p y d h = go (reading magic sheet bytes) refl h
+  where
+    go : (read : Result) → reading magic sheet bytes ≡ read → Draws read p₀ y₀ p y d → HeldDrawn d
+    go (elements numbers) e h = sheet-held (sheet-of numbers) p₀ y₀ p y d h
+    go (Result.refused r) e h = rw (h .0) (given-held r (reader-refusals bytes r e) (reader-offsets bytes r e))
+
+-- of checking
+pub checking-held : (bytes places : List ℕ) (list : List ℤ) → HeldJudgement (check-answer (reading magic sheet bytes) places list)
+checking-held bytes places list = go (check-answer (reading magic sheet bytes) places list) refl
+  where
+    go : (j : Judgement) → check-answer (reading magic sheet bytes) places list ≡ j → HeldJudgement j
+    go Judgement.accepted e = omega arith
+    go Judgement.rejected e = omega arith
+    go (Judgement.refused r) e = let g = check-refusals bytes places list r e in given-held r (g .number-in) (g .offset-in)

@@ -1,0 +1,48 @@
+// The library for other languages: the four calls under C names, each with its answer in one word. Nothing but the lent
+// slices is written.
+mod words;
+
+use crate::words::answer_word;
+use crate::words::drawing_word;
+use crate::words::verdict_word;
+ghost use mathlib.Core.Path.{_≡_};
+ghost use lib.ListN.{length};
+ghost use Rattle.leb128.specs.Format.{reading, writing, answered, filled};
+ghost use Rattle.sheet.specs.Limits.{magic};
+ghost use Rattle.sheet.specs.Grammar.{sheet};
+ghost use Rattle.checker.specs.Verdict.{«check-answer»};
+ghost use Rattle.strip.specs.Words.{«outcome-word», «judgement-word», DrawsWord};
+
+// Reads a sheet's bytes into the front of the numbers.
+#[no_mangle]
+pub extern "C" fn strip_read(bytes: &[u8], numbers: &mut [u16]) -> u64
+    ensures answer { λ r. ⌜ r ≡ outcome-word (answered (length (now (numbers .entry))) (reading magic sheet (now (bytes .entry)))) ⌝ }
+    ensures slice { λ r. ⌜ now (numbers .exit) ≡ filled (reading magic sheet (now (bytes .entry))) (now (numbers .entry)) ⌝ }
+{
+    answer_word(sheet::read(bytes, numbers))
+}
+
+// Writes the sheet of a number list into the front of the bytes.
+#[no_mangle]
+pub extern "C" fn strip_write(numbers: &[u16], bytes: &mut [u8]) -> u64
+    ensures answer { λ r. ⌜ r ≡ outcome-word (answered (length (now (bytes .entry))) (writing magic sheet (now (numbers .entry)))) ⌝ }
+    ensures slice { λ r. ⌜ now (bytes .exit) ≡ filled (writing magic sheet (now (numbers .entry))) (now (bytes .entry)) ⌝ }
+{
+    answer_word(sheet::write(numbers, bytes))
+}
+
+// Draws a sheet into the fronts of the places and the list.
+#[no_mangle]
+pub extern "C" fn strip_draw(bytes: &[u8], places: &mut [u16], list: &mut [i32]) -> u64
+    ensures { λ r. ⌜ DrawsWord (reading magic sheet (now (bytes .entry))) (now (places .entry)) (now (list .entry)) (now (places .exit)) (now (list .exit)) r ⌝ }
+{
+    drawing_word(engine::draw(bytes, places, list))
+}
+
+// Says whether places are a drawing of a sheet and the list shows that none has a smaller total.
+#[no_mangle]
+pub extern "C" fn strip_check(bytes: &[u8], places: &[u16], list: &[i32]) -> u64
+    ensures { λ r. ⌜ r ≡ judgement-word (check-answer (reading magic sheet (now (bytes .entry))) (now (places .entry)) (now (list .entry))) ⌝ }
+{
+    verdict_word(checker::check(bytes, places, list))
+}

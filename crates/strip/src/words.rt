@@ -1,0 +1,56 @@
+// Answers as words.
+use checker::Verdict;
+use engine::Answer as Drawing;
+use leb128::Answer;
+ghost use mathlib.Core.Path.{_≡_};
+ghost use Prim.Native.Nat.{_<_};
+ghost use Rattle.leb128.specs.Format.{outcome};
+ghost use Rattle.checker.specs.Verdict.{judgement};
+ghost use Rattle.engine.specs.Draws.{result};
+ghost use Rattle.strip.specs.Words.{unit, packed, «outcome-word», «drawn-word», «judgement-word»};
+ghost use Rattle.strip.specs.laws.Values.{HeldOutcome, HeldDrawn, HeldJudgement};
+
+// What one more in the refusal's number adds: 2³².
+const UNIT: u64 = 4294967296;
+
+// A refusal's number, 0 where nothing is refused, and a value or an offset.
+fn word(number: u8, value: usize) -> u64
+    requires { ⌜ value < unit ⌝ }
+    ensures { λ r. ⌜ r ≡ packed number value ⌝ }
+{
+    number as u64 * UNIT + value as u64
+}
+
+// The answer of reading or writing.
+pub fn answer_word(answer: Answer) -> u64
+    requires { ⌜ HeldOutcome (outcome answer) ⌝ }
+    ensures { λ r. ⌜ r ≡ outcome-word (outcome answer) ⌝ }
+{
+    match answer {
+        Answer::Done(count) => word(0, count),
+        Answer::Refused(r) => word(r.number, r.offset),
+    }
+}
+
+// The answer of drawing.
+pub fn drawing_word(drawing: Drawing) -> u64
+    requires { ⌜ HeldDrawn (result drawing) ⌝ }
+    ensures { λ r. ⌜ r ≡ drawn-word (result drawing) ⌝ }
+{
+    match drawing {
+        Drawing::Drawn(total) => word(0, total as usize),
+        Drawing::Refused(r) => word(r.number, r.offset),
+    }
+}
+
+// The answer of checking.
+pub fn verdict_word(verdict: Verdict) -> u64
+    requires { ⌜ HeldJudgement (judgement verdict) ⌝ }
+    ensures { λ r. ⌜ r ≡ judgement-word (judgement verdict) ⌝ }
+{
+    match verdict {
+        Verdict::Yes => word(0, 1),
+        Verdict::No => word(0, 0),
+        Verdict::Refused(r) => word(r.number, r.offset),
+    }
+}
