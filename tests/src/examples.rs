@@ -1,12 +1,10 @@
-//! Example sheets for the program `place`, and what it prints for them.
+//! Example sheets for the program `place`.
 //!
 //! A unit is half a millimetre. Tiles carry pixels; amplifiers, converters and connectors stand in
 //! the layers below them along the signal path.
 
-use crate::certificate;
 use crate::document;
 use crate::draft::{Draft, Separation};
-use crate::engine::draw;
 use crate::sheet::{PLAIN, STRAIGHT};
 
 /// The examples, with the names of their files.
@@ -17,24 +15,6 @@ pub fn examples() -> Vec<(&'static str, Draft)> {
         ("boards", boards()),
         ("wall", wall()),
     ]
-}
-
-/// What `place` prints for a sheet.
-pub fn printed(draft: &Draft) -> String {
-    let sheet = draft.sheet();
-    let mut places = vec![0; sheet.node_count()];
-    let mut list = vec![0; certificate::length(&sheet)];
-    let total = match draw(&draft.bytes(), &mut places, &mut list) {
-        Ok(total) => total,
-        Err(refusal) => return format!("refused {} at {}\n", refusal.number, refusal.offset),
-    };
-    let mut text = format!("total {total}\n");
-    for (layer, nodes) in (1..).zip(&sheet.layers) {
-        for (position, place) in (1..).zip(&places[nodes.first..=nodes.last]) {
-            text += &format!("{layer} {position} {place}\n");
-        }
-    }
-    text
 }
 
 /// A panel of twelve tiles: 12 tiles, 6 amplifiers, 3 converters, 2 connectors.

@@ -3,12 +3,12 @@
 use std::fs;
 use std::path::{Path, PathBuf};
 
-use second::examples::{examples, printed};
+use second::examples::examples;
+use second::printed::printed;
 use second::sheet::STRAIGHT;
 
 /// The command that writes the stored files anew, from the root of the repository.
-const REWRITE: &str = "cd tests && CARGO_TARGET_DIR=../target/cargo \
-    cargo run --release --offline --bin example_sheets -- ../examples";
+const REWRITE: &str = "cargo run --release --bin example_sheets -- examples";
 
 /// A file of the repository.
 fn stored(path: &str) -> PathBuf {
@@ -28,7 +28,10 @@ fn check_stored(path: &str, computed: &[u8]) {
 fn stored_examples_are_up_to_date() {
     for (name, draft) in examples() {
         check_stored(&format!("examples/{name}.sheet"), &draft.bytes());
-        check_stored(&format!("examples/{name}.txt"), printed(&draft).as_bytes());
+        check_stored(
+            &format!("examples/{name}.txt"),
+            printed(&draft.bytes()).as_bytes(),
+        );
     }
 }
 
@@ -36,19 +39,19 @@ fn stored_examples_are_up_to_date() {
 fn the_program_is_run_on_the_first_example() {
     let (_, draft) = &examples()[0];
     check_stored("crates/place/stdin", &draft.bytes());
-    check_stored("crates/place/stdout", printed(draft).as_bytes());
+    check_stored("crates/place/stdout", printed(&draft.bytes()).as_bytes());
 }
 
 #[test]
 fn first_example_prints_what_the_document_shows() {
     let (_, draft) = &examples()[0];
-    assert_eq!(printed(draft), "total 1\n1 1 0\n1 2 1\n2 1 0\n");
+    assert_eq!(printed(&draft.bytes()), "total 1\n1 1 0\n1 2 1\n2 1 0\n");
 }
 
 #[test]
 fn examples_have_drawings_with_a_total() {
     for (name, draft) in &examples()[1..] {
-        let text = printed(draft);
+        let text = printed(&draft.bytes());
         assert!(
             text.starts_with("total ") && !text.starts_with("total 0"),
             "{name}"

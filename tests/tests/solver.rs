@@ -1,11 +1,13 @@
-//! The lists found for small sheets, against the checker and brute force.
+//! The drawings and lists found, against the checker, brute force and the cancelling of cycles.
 
+use second::cancelling;
 use second::certificate::{floor, length};
 use second::checker::check;
 use second::document;
 use second::drawing::{least_drawings, leftmost, total};
 use second::generate::{small, tiny};
 use second::network::arcs;
+use second::planted::{planted, Plan};
 use second::random::Random;
 use second::solver::solve;
 
@@ -50,6 +52,34 @@ fn solutions_of_small_sheets_get_a_yes() {
     }
     assert!(drawn > SHEETS && long > SHEETS / 2, "{drawn} {long}");
     assert_eq!((most_nodes, most_edges), (12, 12));
+}
+
+/// Sheets of medium size.
+const MEDIUM: Plan = Plan {
+    layers: 6,
+    nodes: 40,
+    edges: 60,
+    distance: 6,
+    play: 4,
+    margin: 9,
+    straight: 2,
+    maximum: 3,
+};
+
+#[test]
+fn cancelling_cycles_gives_the_same_places() {
+    let mut random = Random::new(14);
+    let mut drafts: Vec<_> = (0..SHEETS).map(|_| small(&mut random)).collect();
+    drafts.extend((0..SHEETS / 20).map(|_| planted(&mut random, &MEDIUM)));
+    let mut drawn = 0;
+    for draft in drafts {
+        let sheet = draft.sheet();
+        let found = solve(&sheet).map(|solution| solution.places);
+        let expected = cancelling::solve(&sheet).map(|solution| solution.places);
+        assert_eq!(found, expected, "{draft:?}");
+        drawn += usize::from(found.is_some());
+    }
+    assert!(drawn > SHEETS / 2 && drawn < SHEETS, "{drawn}");
 }
 
 #[test]

@@ -8,8 +8,7 @@ use std::sync::OnceLock;
 use second::cases::{check, draw, format, groups, input, lines, Group};
 
 /// The commands that write the stored files anew, from the root of the repository.
-const REWRITE: &str = "(cd tests && CARGO_TARGET_DIR=../target/cargo \
-    cargo run --release --offline --bin cases) > crates/library_test/stdin; \
+const REWRITE: &str = "cargo run --release --bin cases > crates/library_test/stdin; \
     target/bin/library_test < crates/library_test/stdin > crates/library_test/stdout";
 
 /// All groups, computed once.

@@ -6,7 +6,8 @@ use std::fs;
 use std::path::Path;
 use std::process::ExitCode;
 
-use second::examples::{examples, printed};
+use second::examples::examples;
+use second::printed::printed;
 
 /// Takes the folder from the command line and writes all files.
 fn main() -> ExitCode {
@@ -17,10 +18,9 @@ fn main() -> ExitCode {
     };
     let folder = Path::new(&folder);
     for (name, draft) in examples() {
-        for (ending, contents) in [
-            ("sheet", draft.bytes()),
-            ("txt", printed(&draft).into_bytes()),
-        ] {
+        let sheet = draft.bytes();
+        let text = printed(&sheet).into_bytes();
+        for (ending, contents) in [("sheet", sheet), ("txt", text)] {
             let path = folder.join(name).with_extension(ending);
             if let Err(error) = fs::write(&path, contents) {
                 eprintln!("example_sheets: cannot write {}: {error}", path.display());

@@ -2,6 +2,7 @@
 
 use super::Group;
 use crate::draft::Draft;
+use crate::families::conflicts::spiral;
 use crate::generate::largest;
 use crate::planted::{planted, Plan};
 use crate::random::Random;
@@ -36,9 +37,9 @@ pub fn extremes() -> Group {
     group.note("a straight chain through 64 layers at the right boundary: yes");
     group.draw_exactly(&chain());
     group.note("a spiral of straight edges that just closes: yes");
-    group.draw_exactly(&spiral(LAYER_LIMIT));
+    group.draw_exactly(&spiral(&[1; LAYER_LIMIT as usize], 0));
     group.note("a spiral of straight edges that misses by 1: no");
-    group.draw_exactly(&spiral(LAYER_LIMIT - 1));
+    group.draw_exactly(&spiral(&[1; LAYER_LIMIT as usize], 1));
     group.note("64 nodes in one layer that fill the width: yes");
     group.draw_exactly(&Draft::new(63, &[64]));
     group.note("64 nodes in one layer, width one less: no");
@@ -65,19 +66,6 @@ fn chain() -> Draft {
     for layer in 1..LAYER_LIMIT {
         let lower = counts[usize::from(layer)];
         draft = draft.edge(layer, 1, lower, STRAIGHT);
-    }
-    draft
-}
-
-/// Layers of three nodes. Straight edges make each layer stand a step to the right of the one
-/// above, and hold the last nodes in line; in the first layer the last two are at most so far apart.
-fn spiral(maximum: u16) -> Draft {
-    let mut draft = Draft::new(WIDTH_LIMIT, &[3; LAYER_LIMIT as usize]);
-    draft = draft.separation(1, 2, 1, maximum);
-    for layer in 1..LAYER_LIMIT {
-        draft = draft
-            .edge(layer, 2, 1, STRAIGHT)
-            .edge(layer, 3, 3, STRAIGHT);
     }
     draft
 }

@@ -1,0 +1,192 @@
+//! Path strips: read, write, draw and check sheets with the proved library.
+//!
+//! Every input is allowed: what has no answer is refused, with a number and an offset. On a refusal
+//! no slice is written. Elements behind the last one written keep their contents. The functions
+//! allocate nothing, have no state, and can be called from any thread.
+//!
+//! ```
+//! let sheet = [0x53, 0x50, 0x31, 5, 2, 2, 1, 0, 1, 2, 1, 1, 1, 0, 1, 2, 1, 0];
+//! let mut places = [0; strip::MAX_PLACES];
+//! let mut list = [0; strip::MAX_LIST];
+//! let total = strip::draw(&sheet, &mut places, &mut list)?;
+//! assert_eq!((total, &places[..3]), (1, &[0, 1, 0][..]));
+//! assert!(strip::check(&sheet, &places, &list)?);
+//! # Ok::<(), strip::Refusal>(())
+//! ```
+
+use std::error::Error;
+use std::fmt;
+
+/// No sheet has more bytes.
+pub const MAX_SHEET_BYTES: usize = 5121;
+/// The greatest count of numbers in a sheet's number list.
+pub const MAX_NUMBERS: usize = 2559;
+/// The greatest count of places in a drawing: one for each node.
+pub const MAX_PLACES: usize = 256;
+/// The greatest count of numbers in a list: one for each edge and two for each node.
+pub const MAX_LIST: usize = 1024;
+/// The stack that any of the library's functions needs, in bytes.
+pub const STACK_BYTES: usize = 53248;
+
+/// Why there is no answer: the number of the refusal and where in the input.
+#[derive(Clone, Copy, Debug, PartialEq, Eq)]
+pub struct Refusal {
+    /// One of the numbers below.
+    pub number: u32,
+    /// The offset of a byte in the sheet, from 0; for [`write`] the index of a number.
+    pub offset: u32,
+}
+
+/// The numbers of the refusals.
+impl Refusal {
+    /// The input ends before the sheet does; the offset is its length.
+    pub const INPUT_ENDED: u32 = 1;
+    /// The first three bytes are not 53 50 31.
+    pub const NOT_A_SHEET: u32 = 2;
+    /// A number is not in the fewest bytes, or takes more than two.
+    pub const NUMBER_FORM: u32 = 3;
+    /// A number lies outside its limits.
+    pub const OUTSIDE_LIMITS: u32 = 4;
+    /// A maximum separation is set and is below its minimum separation.
+    pub const SEPARATIONS_CROSSED: u32 = 5;
+    /// Something follows the last edge.
+    pub const SOMETHING_FOLLOWS: u32 = 6;
+    /// A slice is too short for what is to be read or written there.
+    pub const SLICE_SHORT: u32 = 7;
+    /// No drawing exists.
+    pub const NO_DRAWING: u32 = 8;
+    /// The total is above 16,777,215. No sheet has such a total.
+    pub const TOTAL_LARGE: u32 = 9;
+}
+
+/// The refusal as the program `place` prints it.
+impl fmt::Display for Refusal {
+    fn fmt(&self, formatter: &mut fmt::Formatter<'_>) -> fmt::Result {
+        write!(formatter, "refused {} at {}", self.number, self.offset)
+    }
+}
+
+impl Error for Refusal {}
+
+/// The functions of the static library; the answer is refusal number · 2³² + value.
+mod raw {
+    extern "C" {
+        pub fn strip_read(
+            sheet: *const u8,
+            sheet_len: usize,
+            numbers: *mut u16,
+            numbers_len: usize,
+        ) -> u64;
+        pub fn strip_write(
+            numbers: *const u16,
+            numbers_len: usize,
+            sheet: *mut u8,
+            sheet_len: usize,
+        ) -> u64;
+        pub fn strip_draw(
+            sheet: *const u8,
+            sheet_len: usize,
+            places: *mut u16,
+            places_len: usize,
+            list: *mut i32,
+            list_len: usize,
+        ) -> u64;
+        pub fn strip_check(
+            sheet: *const u8,
+            sheet_len: usize,
+            places: *const u16,
+            places_len: usize,
+            list: *const i32,
+            list_len: usize,
+        ) -> u64;
+    }
+}
+
+/// Reads the number list of a sheet into the front of a slice, and gives the count of numbers.
+///
+/// Refusals 1 to 7. A slice of [`MAX_NUMBERS`] is long enough for every sheet.
+pub fn read(sheet: &[u8], numbers: &mut [u16]) -> Result<usize, Refusal> {
+    // SAFETY: the pointers and lengths are those of two slices, and a `&mut` overlaps nothing.
+    let answer = unsafe {
+        raw::strip_read(
+            sheet.as_ptr(),
+            sheet.len(),
+            numbers.as_mut_ptr(),
+            numbers.len(),
+        )
+    };
+    value(answer).map(|count| count as usize)
+}
+
+/// Writes the sheet of a number list into the front of a slice, and gives the count of bytes.
+///
+/// Refusals 1, 4, 5, 6 and 7. A slice of [`MAX_SHEET_BYTES`] is long enough for every sheet.
+///
+/// ```
+/// let one_node = [0, 1, 1, 0];
+/// let mut sheet = [0; 7];
+/// assert_eq!(strip::write(&one_node, &mut sheet), Ok(7));
+/// let refusal = strip::write(&one_node, &mut sheet[1..]).unwrap_err();
+/// assert_eq!(refusal.to_string(), "refused 7 at 0");
+/// ```
+pub fn write(numbers: &[u16], sheet: &mut [u8]) -> Result<usize, Refusal> {
+    // SAFETY: as in `read`.
+    let answer = unsafe {
+        raw::strip_write(
+            numbers.as_ptr(),
+            numbers.len(),
+            sheet.as_mut_ptr(),
+            sheet.len(),
+        )
+    };
+    value(answer).map(|count| count as usize)
+}
+
+/// Writes the leftmost drawing of least total, and a list that shows it to be least, into the
+/// fronts of two slices, and gives the total.
+///
+/// Refusals 1 to 8. Slices of [`MAX_PLACES`] and [`MAX_LIST`] are long enough for every sheet.
+pub fn draw(sheet: &[u8], places: &mut [u16], list: &mut [i32]) -> Result<u32, Refusal> {
+    // SAFETY: as in `read`, with one slice more.
+    let answer = unsafe {
+        raw::strip_draw(
+            sheet.as_ptr(),
+            sheet.len(),
+            places.as_mut_ptr(),
+            places.len(),
+            list.as_mut_ptr(),
+            list.len(),
+        )
+    };
+    value(answer)
+}
+
+/// Says whether the list shows that the places are a drawing of least total.
+///
+/// Refusals 1 to 7. Elements behind the ones that the sheet needs are not looked at.
+pub fn check(sheet: &[u8], places: &[u16], list: &[i32]) -> Result<bool, Refusal> {
+    // SAFETY: the pointers and lengths are those of three slices, which are only read.
+    let answer = unsafe {
+        raw::strip_check(
+            sheet.as_ptr(),
+            sheet.len(),
+            places.as_ptr(),
+            places.len(),
+            list.as_ptr(),
+            list.len(),
+        )
+    };
+    value(answer).map(|word| word == 1)
+}
+
+/// The value of an answer, or the refusal.
+fn value(answer: u64) -> Result<u32, Refusal> {
+    let (number, value) = ((answer >> 32) as u32, answer as u32);
+    match number {
+        0 => Ok(value),
+        _ => Err(Refusal {
+            number,
+            offset: value,
+        }),
+    }
+}

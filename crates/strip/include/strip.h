@@ -1,0 +1,99 @@
+/*
+ * Path strips: read, write, draw and check sheets.
+ *
+ * A slice is a pointer to its first element and the count of its elements. An answer is one number
+ * of 64 bits: strip_refusal() is 0 where the call succeeded, and strip_value() is then its result.
+ * Otherwise strip_refusal() says why there is none, and strip_value() where: the offset of a byte
+ * in the sheet (for strip_write the index of a number), from 0. On a refusal no slice is written.
+ * Elements behind the last one written keep their contents.
+ *
+ * What the caller sees to: pointers are valid for as many elements as the count says, and aligned.
+ * A slice that is written overlaps no other. A pointer may be NULL where the count is 0. Apart from
+ * that every input is allowed.
+ *
+ * The functions allocate nothing, have no state, set no errno, and do no input or output. They can
+ * be called from any thread, also from several at once. They need memset of the C library, and
+ * STRIP_STACK_BYTES of stack.
+ */
+#ifndef STRIP_H
+#define STRIP_H
+
+#include <stddef.h>
+#include <stdint.h>
+
+#ifdef __cplusplus
+extern "C" {
+#endif
+
+/* No sheet has more bytes. */
+#define STRIP_MAX_SHEET_BYTES 5121
+/* The greatest count of numbers in a sheet's number list. */
+#define STRIP_MAX_NUMBERS 2559
+/* The greatest count of places in a drawing: one for each node. */
+#define STRIP_MAX_PLACES 256
+/* The greatest count of numbers in a list: one for each edge and two for each node. */
+#define STRIP_MAX_LIST 1024
+/* The stack that any of the functions needs, in bytes. strip_draw needs the most. */
+#define STRIP_STACK_BYTES 53248
+
+/* The values of strip_refusal(). */
+enum {
+    /* The call succeeded. */
+    STRIP_OK = 0,
+    /* The input ends before the sheet does; the value is its length. */
+    STRIP_INPUT_ENDED = 1,
+    /* The first three bytes are not 53 50 31. */
+    STRIP_NOT_A_SHEET = 2,
+    /* A number is not in the fewest bytes, or takes more than two. */
+    STRIP_NUMBER_FORM = 3,
+    /* A number lies outside its limits. */
+    STRIP_OUTSIDE_LIMITS = 4,
+    /* A maximum separation is set and is below its minimum separation. */
+    STRIP_SEPARATIONS_CROSSED = 5,
+    /* Something follows the last edge. */
+    STRIP_SOMETHING_FOLLOWS = 6,
+    /* A slice is too short for what is to be read or written there. */
+    STRIP_SLICE_SHORT = 7,
+    /* No drawing exists. */
+    STRIP_NO_DRAWING = 8,
+    /* The total is above 16,777,215. No sheet has such a total. */
+    STRIP_TOTAL_LARGE = 9
+};
+
+/* Reads the number list of a sheet into the front of numbers. The value is the count of numbers.
+ * Refusals 1 to 7. STRIP_MAX_NUMBERS elements are enough for every sheet. */
+uint64_t strip_read(const uint8_t *sheet, size_t sheet_len,
+                    uint16_t *numbers, size_t numbers_len);
+
+/* Writes the sheet of a number list into the front of sheet. The value is the count of bytes.
+ * Refusals 1, 4, 5, 6 and 7. STRIP_MAX_SHEET_BYTES elements are enough for every sheet. */
+uint64_t strip_write(const uint16_t *numbers, size_t numbers_len,
+                     uint8_t *sheet, size_t sheet_len);
+
+/* Writes the leftmost drawing of least total, and a list that shows it to be least. The value is
+ * the total. Refusals 1 to 8. STRIP_MAX_PLACES and STRIP_MAX_LIST are enough for every sheet. */
+uint64_t strip_draw(const uint8_t *sheet, size_t sheet_len,
+                    uint16_t *places, size_t places_len,
+                    int32_t *list, size_t list_len);
+
+/* Says whether the list shows that the places are a drawing of least total. The value is 1 for
+ * yes, 0 for no. Refusals 1 to 7. Elements behind those that the sheet needs are not looked at. */
+uint64_t strip_check(const uint8_t *sheet, size_t sheet_len,
+                     const uint16_t *places, size_t places_len,
+                     const int32_t *list, size_t list_len);
+
+/* The number of the refusal in an answer; 0 where the call succeeded. */
+static inline uint32_t strip_refusal(uint64_t answer) {
+    return (uint32_t)(answer >> 32);
+}
+
+/* The value in an answer: the result, or where the input is refused. */
+static inline uint32_t strip_value(uint64_t answer) {
+    return (uint32_t)answer;
+}
+
+#ifdef __cplusplus
+}
+#endif
+
+#endif

@@ -1,0 +1,110 @@
+//! Times drawing and checking sheets of growing size by the library.
+
+use std::hint::black_box;
+use std::time::{Duration, Instant};
+
+use second::certificate;
+use second::draft::Draft;
+use second::families::conflicts::spiral;
+use second::planted::{planted, Plan};
+use second::random::Random;
+
+/// How many different sheets there are of each size.
+const SHEETS: usize = 20;
+/// How many times all of them are taken; the shortest time counts.
+const RUNS: usize = 50;
+/// A sheet whose nodes can move a little; the counts are set for each size.
+const TIGHT: Plan = Plan {
+    layers: 8,
+    nodes: 0,
+    edges: 0,
+    distance: 3,
+    play: 1,
+    margin: 0,
+    straight: 8,
+    maximum: 2,
+};
+/// A sheet whose nodes can move far.
+const WIDE: Plan = Plan {
+    distance: 60,
+    play: 50,
+    margin: 2000,
+    straight: 8,
+    maximum: 4,
+    ..TIGHT
+};
+
+/// A sheet with its drawing and list.
+struct Sample {
+    bytes: Vec<u8>,
+    places: Vec<u16>,
+    list: Vec<i32>,
+}
+
+impl Sample {
+    /// Slices for a sheet.
+    fn new(draft: &Draft) -> Sample {
+        let sheet = draft.sheet();
+        Sample {
+            bytes: draft.bytes(),
+            places: vec![0; sheet.node_count()],
+            list: vec![0; certificate::length(&sheet)],
+        }
+    }
+
+    /// Draws the sheet, and says whether it has a drawing.
+    fn draw(&mut self) -> bool {
+        strip::draw(black_box(&self.bytes), &mut self.places, &mut self.list).is_ok()
+    }
+
+    /// Checks the drawing.
+    fn check(&mut self) -> bool {
+        strip::check(black_box(&self.bytes), &self.places, &self.list) == Ok(true)
+    }
+}
+
+/// Prints a line for each size, and one for a sheet without a drawing.
+fn main() {
+    println!("microseconds for a sheet");
+    println!("                draw            check");
+    println!("nodes  edges   tight    wide   tight    wide");
+    for nodes in [16, 32, 64, 128, 256] {
+        let edges = 2 * nodes;
+        let [tight, wide] = [TIGHT, WIDE].map(|plan| {
+            measure(&Plan {
+                nodes,
+                edges,
+                ..plan
+            })
+        });
+        println!(
+            "{nodes:5}  {edges:5}  {:6.1}  {:6.1}  {:6.1}  {:6.1}",
+            tight.0, wide.0, tight.1, wide.1
+        );
+    }
+    let mut spiral = [Sample::new(&spiral(&[1; 64], 1))];
+    let refused = shortest(&mut spiral, |sample| !sample.draw());
+    println!("a spiral of 192 nodes and 126 edges without a drawing is refused in {refused:.1}");
+}
+
+/// The microseconds for drawing and for checking a sheet of a plan.
+fn measure(plan: &Plan) -> (f64, f64) {
+    let mut random = Random::new(14);
+    let sample = |_| Sample::new(&planted(&mut random, plan));
+    let mut samples: Vec<Sample> = (0..SHEETS).map(sample).collect();
+    let draw = shortest(&mut samples, Sample::draw);
+    let check = shortest(&mut samples, Sample::check);
+    (draw, check)
+}
+
+/// The microseconds for one sheet in the shortest of several runs; the call must say yes.
+fn shortest(samples: &mut [Sample], call: fn(&mut Sample) -> bool) -> f64 {
+    let mut least = Duration::MAX;
+    for _ in 0..RUNS {
+        let start = Instant::now();
+        let all = samples.iter_mut().all(call);
+        least = least.min(start.elapsed());
+        assert!(all, "a sheet gets another answer");
+    }
+    least.as_secs_f64() * 1e6 / samples.len() as f64
+}

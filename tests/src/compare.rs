@@ -1,0 +1,79 @@
+//! Compares a library with this package: what both answer, and what both leave in every slice.
+//!
+//! Every function here panics where the two differ. Only the pull list of a drawing may be another
+//! one; both checkers must accept it.
+
+mod checking;
+mod drawing;
+mod format;
+mod near;
+mod tally;
+
+use crate::drawing::Sheet;
+use crate::random::Random;
+use crate::refusal::Refusal;
+
+pub use checking::judge;
+pub use format::{read, write};
+pub use tally::{grouped, scale, Tally};
+
+/// The four functions of a library, as document 01 has them.
+pub trait Library {
+    /// Reads a sheet's numbers into the front of a slice, and gives their count.
+    fn read(&self, sheet: &[u8], numbers: &mut [u16]) -> Result<usize, Refusal>;
+    /// Writes the sheet of a number list into the front of a slice, and gives the count of bytes.
+    fn write(&self, numbers: &[u16], sheet: &mut [u8]) -> Result<usize, Refusal>;
+    /// Writes the drawing of a sheet and a pull list into the fronts of slices, and gives the total.
+    fn draw(&self, sheet: &[u8], places: &mut [u16], list: &mut [i32]) -> Result<u32, Refusal>;
+    /// Says whether a list shows that places are a drawing of least total.
+    fn check(&self, sheet: &[u8], places: &[u16], list: &[i32]) -> Result<bool, Refusal>;
+}
+
+/// What both answer to a sheet, and how often both checkers say yes and no.
+#[derive(Clone, Debug)]
+pub struct Outcome {
+    /// The total and the places, or why the sheet is not drawn.
+    pub drawn: Result<(u32, Vec<u16>), Refusal>,
+    pub yes: usize,
+    pub no: usize,
+}
+
+/// Compares all that is answered to these bytes: reading them, writing what is read, drawing, and
+/// checking the drawing and near misses of it.
+pub fn sheet(library: &impl Library, bytes: &[u8]) -> Outcome {
+    let mut random = Random::new(seed(bytes));
+    let _ = write(library, &pairs(bytes));
+    match read(library, bytes) {
+        Ok(numbers) => {
+            let written = write(library, &numbers);
+            assert_eq!(written.as_deref(), Ok(bytes), "writing {numbers:?}");
+            for list in near::numbers(&mut random, &numbers) {
+                let _ = write(library, &list);
+            }
+            let sheet = Sheet::from_numbers(&numbers);
+            let drawn = drawing::good(library, bytes, &sheet);
+            checking::good(library, &mut random, bytes, &sheet, drawn)
+        }
+        Err(refusal) => {
+            drawing::bad(library, bytes);
+            checking::bad(library, bytes);
+            Outcome {
+                drawn: Err(refusal),
+                yes: 0,
+                no: 0,
+            }
+        }
+    }
+}
+
+/// The bytes two by two, as 16-bit numbers.
+fn pairs(bytes: &[u8]) -> Vec<u16> {
+    let pair = |pair: &[u8]| u16::from_le_bytes([pair[0], pair[1]]);
+    bytes.chunks_exact(2).map(pair).collect()
+}
+
+/// A seed that depends on the bytes only.
+fn seed(bytes: &[u8]) -> u64 {
+    let mix = |seed: u64, &byte: &u8| (seed ^ u64::from(byte)).wrapping_mul(0x100_0000_01b3);
+    bytes.iter().fold(0xcbf2_9ce4_8422_2325, mix)
+}

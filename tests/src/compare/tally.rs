@@ -1,0 +1,103 @@
+//! Counts of what has been compared.
+
+use std::env;
+
+use super::{sheet, Library, Outcome};
+use crate::draft::Draft;
+use crate::random::Random;
+use crate::refusal::NO_DRAWING;
+
+/// How many times more sheets are compared than by default: the environment variable
+/// `STRIP_TEST_SCALE`, or 1.
+pub fn scale() -> usize {
+    match env::var("STRIP_TEST_SCALE") {
+        Ok(text) => match text.parse() {
+            Ok(scale) if scale > 0 => scale,
+            _ => panic!("STRIP_TEST_SCALE is {text:?}, not a number from 1 on"),
+        },
+        Err(_) => 1,
+    }
+}
+
+/// What has been compared of one kind of sheets.
+#[derive(Default)]
+pub struct Tally {
+    pub sheets: usize,
+    pub drawn: usize,
+    /// Drawn with a total above 0.
+    pub long: usize,
+    /// By the number of the refusal.
+    pub refused: [usize; 10],
+    /// What the checkers said to drawings and near misses.
+    pub yes: usize,
+    pub no: usize,
+}
+
+impl Tally {
+    /// Compares sheets as they come, and prints the counts.
+    pub fn of(library: &impl Library, kind: &str, drafts: impl Iterator<Item = Draft>) -> Tally {
+        let mut tally = Tally::default();
+        for draft in drafts {
+            tally.add(&sheet(library, &draft.bytes()));
+        }
+        tally.print(kind);
+        tally
+    }
+
+    /// The same for so many random sheets, times the scale.
+    pub fn of_random(
+        library: &impl Library,
+        kind: &str,
+        (seed, count): (u64, usize),
+        draft: impl Fn(&mut Random) -> Draft,
+    ) -> Tally {
+        let mut random = Random::new(seed);
+        let drafts = (0..count * scale()).map(|_| draft(&mut random));
+        Tally::of(library, kind, drafts)
+    }
+
+    /// How many sheets have no drawing.
+    pub fn undrawn(&self) -> usize {
+        self.refused[NO_DRAWING as usize]
+    }
+
+    /// Counts one more sheet.
+    pub fn add(&mut self, outcome: &Outcome) {
+        self.sheets += 1;
+        self.yes += outcome.yes;
+        self.no += outcome.no;
+        match &outcome.drawn {
+            Ok((total, _)) => {
+                self.drawn += 1;
+                self.long += usize::from(*total > 0);
+            }
+            Err(refusal) => self.refused[refusal.number as usize] += 1,
+        }
+    }
+
+    /// Prints a line with all counts.
+    pub fn print(&self, kind: &str) {
+        let mut line = format!("compared: {} {kind}", grouped(self.sheets));
+        line += &format!(": {} drawn", grouped(self.drawn));
+        for (number, &count) in self.refused.iter().enumerate() {
+            if count > 0 {
+                line += &format!(", {} refused {number}", grouped(count));
+            }
+        }
+        let (yes, no) = (grouped(self.yes), grouped(self.no));
+        println!("{line}; checked: {yes} yes, {no} no");
+    }
+}
+
+/// A number with commas between groups of three digits.
+pub fn grouped(number: usize) -> String {
+    let digits = number.to_string();
+    let mut text = String::new();
+    for (i, digit) in digits.chars().enumerate() {
+        if i > 0 && (digits.len() - i).is_multiple_of(3) {
+            text.push(',');
+        }
+        text.push(digit);
+    }
+    text
+}

@@ -1,0 +1,167 @@
+//! What the driver `tests/c/damaged.c` is given, and what it prints: calls of the four functions
+//! with slices of just the lengths that are needed, one element shorter, and longer.
+
+mod items;
+
+use crate::certificate;
+use crate::checker::check;
+use crate::drawing::Sheet;
+use crate::engine::draw;
+use crate::generate::LONGEST;
+use crate::refusal::{Refusal, NO_DRAWING};
+use crate::sheet::{read, write, NUMBER_LIMIT};
+
+pub use items::items;
+
+/// The lengths by which the slices of reader and writer differ from what is needed.
+const MORE: [isize; 3] = [-1, 0, 1];
+/// The same for the places and the list of a drawing.
+const MORE_DRAWN: [(isize, isize); 4] = [(-1, 0), (0, -1), (0, 0), (3, 5)];
+/// The bytes of which places and lists are made that no engine drew.
+const FILLINGS: [u8; 4] = [0x00, 0x7f, 0x80, 0xff];
+
+/// What the driver calls the functions with.
+pub enum Item {
+    /// The bytes of a sheet: read, drawn and checked.
+    Sheet(Vec<u8>),
+    /// A number list: written.
+    Numbers(Vec<u16>),
+}
+
+/// The lengths of the slices that an item needs; 1 each where it is refused.
+struct Needs {
+    numbers: usize,
+    places: usize,
+    list: usize,
+    sheet: usize,
+}
+
+impl Item {
+    /// An item of these bytes.
+    pub fn sheet(bytes: &[u8]) -> Item {
+        Item::Sheet(bytes.to_vec())
+    }
+
+    /// The item as the driver reads it: six 32-bit numbers and the elements.
+    pub fn bytes(&self) -> Vec<u8> {
+        let (kind, elements) = match self {
+            Item::Sheet(bytes) => (0, bytes.clone()),
+            Item::Numbers(numbers) => (1, numbers.iter().flat_map(|n| n.to_le_bytes()).collect()),
+        };
+        let needs = self.needs();
+        let lengths = [needs.numbers, needs.places, needs.list, needs.sheet];
+        let head = [kind, elements.len()].into_iter().chain(lengths);
+        let mut bytes: Vec<u8> = head.flat_map(|n| (n as u32).to_le_bytes()).collect();
+        bytes.extend(elements);
+        bytes
+    }
+
+    /// What the slices must have room for.
+    fn needs(&self) -> Needs {
+        let mut needs = Needs {
+            numbers: 1,
+            places: 1,
+            list: 1,
+            sheet: 1,
+        };
+        match self {
+            Item::Sheet(bytes) => {
+                let mut numbers = [0; NUMBER_LIMIT];
+                if let Ok(count) = read(bytes, &mut numbers) {
+                    let sheet = Sheet::from_numbers(&numbers[..count]);
+                    needs.numbers = count;
+                    needs.places = sheet.node_count();
+                    needs.list = certificate::length(&sheet);
+                }
+            }
+            Item::Numbers(numbers) => {
+                needs.sheet = write(numbers, &mut [0; LONGEST]).unwrap_or(1);
+            }
+        }
+        needs
+    }
+}
+
+/// The lines that the driver prints for an item.
+pub fn calls(item: &Item) -> Vec<String> {
+    let needs = item.needs();
+    let mut lines = Vec::new();
+    match item {
+        Item::Sheet(bytes) => {
+            lines.extend(MORE.map(|more| reading(bytes, longer(needs.numbers, more))));
+            for (places, list) in MORE_DRAWN {
+                lines.extend(drawing(bytes, &needs, places, list));
+            }
+            lines.extend(FILLINGS.map(|byte| checking(bytes, &needs, byte)));
+        }
+        Item::Numbers(numbers) => {
+            lines.extend(MORE.map(|more| writing(numbers, longer(needs.sheet, more))));
+        }
+    }
+    lines
+}
+
+/// A length with so many more elements.
+fn longer(length: usize, more: isize) -> usize {
+    length.checked_add_signed(more).expect("a length is not 0")
+}
+
+/// The line for reading a sheet into a slice of this length.
+fn reading(bytes: &[u8], length: usize) -> String {
+    let mut numbers = vec![0; length];
+    let answer = read(bytes, &mut numbers);
+    numbers.truncate(answer.unwrap_or(0));
+    shown("read", answer.map(|count| count as u32), &numbers)
+}
+
+/// The line for writing a list into a slice of this length.
+fn writing(numbers: &[u16], length: usize) -> String {
+    let mut bytes = vec![0; length];
+    let answer = write(numbers, &mut bytes);
+    let written = sum(bytes.into_iter().take(answer.unwrap_or(0)));
+    let number = number(answer.map(|count| count as u32));
+    format!("write {number:016x} {written:08x}")
+}
+
+/// The lines for drawing a sheet and checking the drawing, with so much more room than needed.
+/// Where no drawing exists there is nothing to check.
+fn drawing(bytes: &[u8], needs: &Needs, more_places: isize, more_list: isize) -> Vec<String> {
+    let mut places = vec![0; longer(needs.places, more_places)];
+    let mut list = vec![0; longer(needs.list, more_list)];
+    let answer = draw(bytes, &mut places, &mut list);
+    let checked = check(bytes, &places, &list);
+    places.truncate(answer.map_or(0, |_| needs.places));
+    let mut lines = vec![shown("draw", answer, &places)];
+    if !answer.is_err_and(|refusal| refusal.number == NO_DRAWING) {
+        lines.push(format!("check {:016x}", number(checked.map(u32::from))));
+    }
+    lines
+}
+
+/// The line for checking places and a list that are made of one byte.
+fn checking(bytes: &[u8], needs: &Needs, byte: u8) -> String {
+    let places = vec![u16::from_le_bytes([byte; 2]); needs.places];
+    let list = vec![i32::from_le_bytes([byte; 4]); needs.list];
+    let answer = check(bytes, &places, &list);
+    format!("check {:016x}", number(answer.map(u32::from)))
+}
+
+/// The line for an answer and the 16-bit elements written.
+fn shown(name: &str, answer: Result<u32, Refusal>, written: &[u16]) -> String {
+    let written = sum(written.iter().flat_map(|n| n.to_le_bytes()));
+    format!("{name} {:016x} {written:08x}", number(answer))
+}
+
+/// An answer as one number: that of the refusal · 2³² + value.
+fn number(answer: Result<u32, Refusal>) -> u64 {
+    match answer {
+        Ok(value) => value.into(),
+        Err(refusal) => (u64::from(refusal.number) << 32) + refusal.offset as u64,
+    }
+}
+
+/// A sum of bytes (FNV-1a).
+fn sum(bytes: impl Iterator<Item = u8>) -> u32 {
+    let add = |sum: u32, byte: u8| (sum ^ u32::from(byte)).wrapping_mul(16_777_619);
+    bytes.fold(2_166_136_261, add)
+}

@@ -1,0 +1,104 @@
+//! Good and damaged sheets and number lists of all sizes, for the driver.
+
+use super::Item;
+use crate::damage::DAMAGES;
+use crate::document::{self, NO_DRAWING, ONE_NODE, REFUSED};
+use crate::examples::examples;
+use crate::generate::{fullest, good, small, tiny};
+use crate::mutation::{byte_changes, changed, damages, truncated};
+use crate::planted::{planted, Plan};
+use crate::random::Random;
+use crate::sheet::{read, EDGE_LIMIT, NODE_LIMIT, NUMBER_LIMIT};
+
+/// All items.
+pub fn items() -> Vec<Item> {
+    let sheets: Vec<Vec<u8>> = [named(), damaged(), random(), large()].concat();
+    let lists = number_lists(&sheets).into_iter().map(Item::Numbers);
+    let mut items: Vec<Item> = sheets.into_iter().map(Item::Sheet).collect();
+    items.extend(lists);
+    items
+}
+
+/// The sheets of document 01 and the examples, good and refused.
+fn named() -> Vec<Vec<u8>> {
+    let refused = REFUSED.map(|(_, bytes)| bytes.to_vec());
+    let mut sheets = refused.to_vec();
+    sheets.extend([NO_DRAWING.to_vec(), ONE_NODE.to_vec(), Vec::new()]);
+    sheets.extend(document::sheets().iter().map(|(_, draft)| draft.bytes()));
+    sheets.extend(examples().iter().map(|(_, draft)| draft.bytes()));
+    sheets
+}
+
+/// Two small sheets, damaged in every way.
+fn damaged() -> Vec<Vec<u8>> {
+    let mut sheets = Vec::new();
+    for draft in [document::first(), document::two_over_three(1)] {
+        for (_, damaged) in damages(&draft.bytes(), byte_changes) {
+            sheets.extend(damaged);
+        }
+    }
+    sheets
+}
+
+/// Random good sheets, and three damaged ones of each.
+fn random() -> Vec<Vec<u8>> {
+    let mut random = Random::new(51);
+    let mut sheets = Vec::new();
+    for i in 0..240 {
+        let draft = match i % 3 {
+            0 => tiny(&mut random),
+            1 => small(&mut random),
+            _ => good(&mut random),
+        };
+        let bytes = draft.bytes();
+        for (_, damage) in DAMAGES.iter().skip(i % 4).step_by(4) {
+            sheets.push(damage(&mut random, &bytes));
+        }
+        sheets.push(bytes);
+    }
+    sheets
+}
+
+/// Large sheets: with a drawing, the fullest ones, and with many bytes behind them.
+fn large() -> Vec<Vec<u8>> {
+    let mut random = Random::new(52);
+    let mut sheets = Vec::new();
+    for (nodes, edges) in [(20, 30), (60, 90), (100, 200), (NODE_LIMIT, EDGE_LIMIT)] {
+        for layers in [4, 9, 20] {
+            let plan = Plan {
+                layers,
+                nodes,
+                edges,
+                distance: 9,
+                play: 4,
+                margin: 50,
+                straight: 6,
+                maximum: 3,
+            };
+            sheets.push(planted(&mut random, &plan).bytes());
+        }
+    }
+    for layers in [1, 4, 64] {
+        let bytes = fullest(layers).bytes();
+        sheets.push([bytes.as_slice(), &[0; 4096]].concat());
+        sheets.push(bytes[..bytes.len() - 1].to_vec());
+        sheets.push(bytes);
+    }
+    sheets
+}
+
+/// The number lists of the good sheets, and one of them damaged in every way.
+fn number_lists(sheets: &[Vec<u8>]) -> Vec<Vec<u16>> {
+    let first = document::first().numbers();
+    let changes = |n: u16| vec![0, 1, 64, 65, 513, 4096, 16384, u16::MAX, n.wrapping_add(1)];
+    let mut lists = [truncated(&first), changed(&first, changes)].concat();
+    lists.push([first.as_slice(), &[1]].concat());
+    for bytes in sheets {
+        let mut numbers = vec![0; NUMBER_LIMIT];
+        if let Ok(count) = read(bytes, &mut numbers) {
+            numbers.truncate(count);
+            lists.push(numbers);
+        }
+    }
+    lists
+}

@@ -1,0 +1,8 @@
+//! Families of sheets on which the library and this package are compared.
+
+pub mod conflicts;
+pub mod exhaustive;
+pub mod realistic;
+pub mod sizes;
+pub mod turned;
+pub mod widths;

@@ -1,0 +1,49 @@
+//! Random sheets of medium and of full size, and with many parallel edges; all have a drawing.
+
+use crate::draft::Draft;
+use crate::planted::{planted, Plan};
+use crate::random::Random;
+use crate::sheet::{EDGE_LIMIT, NODE_LIMIT};
+
+/// One of some numbers.
+fn one_of(random: &mut Random, numbers: &[u16]) -> u16 {
+    numbers[random.index(numbers.len())]
+}
+
+/// A random plan with these counts: tight or wide, with few or many straight edges and maxima.
+fn any_plan(random: &mut Random, layers: u16, nodes: u16, edges: u16) -> Plan {
+    Plan {
+        layers,
+        nodes,
+        edges,
+        distance: one_of(random, &[1, 2, 3, 9, 60]),
+        play: one_of(random, &[0, 1, 2, 8, 50]),
+        margin: one_of(random, &[0, 0, 1, 9, 100, 3000]),
+        straight: one_of(random, &[1, 2, 4, 20, 100]),
+        maximum: one_of(random, &[1, 2, 4, 20, 100]),
+    }
+}
+
+/// A sheet of some dozens of nodes and edges.
+pub fn medium(random: &mut Random) -> Draft {
+    let layers = random.within(2..=20);
+    let nodes = random.within(layers.max(20)..=80);
+    let edges = random.within(20..=160);
+    let plan = any_plan(random, layers, nodes, edges);
+    planted(random, &plan)
+}
+
+/// A sheet of 256 nodes and 512 edges in this many layers.
+pub fn full(random: &mut Random, layers: u16) -> Draft {
+    let plan = any_plan(random, layers, NODE_LIMIT, EDGE_LIMIT);
+    planted(random, &plan)
+}
+
+/// A sheet of a few nodes and up to 512 edges, most of which have the same ends as others.
+pub fn parallel(random: &mut Random) -> Draft {
+    let layers = random.within(2..=5);
+    let nodes = random.within(layers..=14);
+    let edges = one_of(random, &[30, 60, 120, EDGE_LIMIT]);
+    let plan = any_plan(random, layers, nodes, edges);
+    planted(random, &plan)
+}

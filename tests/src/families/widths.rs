@@ -1,0 +1,31 @@
+//! Sheets in the narrowest width, and one next to it.
+
+use crate::draft::Draft;
+use crate::sheet::WIDTH_LIMIT;
+use crate::solver::solve;
+
+/// The sheet in another width.
+pub fn in_width(draft: &Draft, width: u16) -> Draft {
+    Draft {
+        width,
+        ..draft.clone()
+    }
+}
+
+/// The narrowest width in which a sheet has a drawing, if it has one in any.
+pub fn narrowest(draft: &Draft) -> Option<u16> {
+    let is_drawn = |width: u16| solve(&in_width(draft, width).sheet()).is_some();
+    if !is_drawn(WIDTH_LIMIT) {
+        return None;
+    }
+    let (mut least, mut greatest) = (0, WIDTH_LIMIT);
+    while least < greatest {
+        let middle = (least + greatest) / 2;
+        if is_drawn(middle) {
+            greatest = middle;
+        } else {
+            least = middle + 1;
+        }
+    }
+    Some(least)
+}

@@ -1,0 +1,199 @@
+//! The comparison itself: it finds each fault that a library is given, and none where there is none.
+
+use std::panic::{catch_unwind, AssertUnwindSafe};
+
+use second::certificate;
+use second::checker;
+use second::compare::{sheet, Library};
+use second::document::{self, REFUSED};
+use second::drawing::Sheet;
+use second::engine;
+use second::families::turned::mirrored;
+use second::generate;
+use second::random::Random;
+use second::refusal::{Refusal, NO_DRAWING, SLICE_TOO_SHORT};
+use second::sheet::{self as format, NUMBER_LIMIT, PLAIN};
+
+/// What is wrong with a library.
+#[derive(Clone, Copy, Debug, PartialEq)]
+enum Fault {
+    Nothing,
+    ReadOffset,
+    ReadBehind,
+    ReadOnRefusal,
+    ReadShort,
+    WriteIndex,
+    WriteByte,
+    WriteBehind,
+    DrawTotal,
+    DrawRightmost,
+    DrawZeroList,
+    DrawBehindPlaces,
+    DrawBehindList,
+    DrawOnRefusal,
+    DrawShort,
+    DrawNothing,
+    CheckYes,
+    CheckNo,
+    CheckShort,
+    CheckPlaces,
+    CheckWraps,
+}
+
+/// All faults.
+const FAULTS: [Fault; 20] = [
+    Fault::ReadOffset,
+    Fault::ReadBehind,
+    Fault::ReadOnRefusal,
+    Fault::ReadShort,
+    Fault::WriteIndex,
+    Fault::WriteByte,
+    Fault::WriteBehind,
+    Fault::DrawTotal,
+    Fault::DrawRightmost,
+    Fault::DrawZeroList,
+    Fault::DrawBehindPlaces,
+    Fault::DrawBehindList,
+    Fault::DrawOnRefusal,
+    Fault::DrawShort,
+    Fault::DrawNothing,
+    Fault::CheckYes,
+    Fault::CheckNo,
+    Fault::CheckShort,
+    Fault::CheckPlaces,
+    Fault::CheckWraps,
+];
+
+/// This package as a library with a fault.
+struct Faulty(Fault);
+
+/// The refusal of a slice that is too short.
+fn too_short<T>() -> Result<T, Refusal> {
+    Err(Refusal::new(SLICE_TOO_SHORT, 0))
+}
+
+impl Library for Faulty {
+    fn read(&self, sheet: &[u8], numbers: &mut [u16]) -> Result<usize, Refusal> {
+        let answer = format::read(sheet, numbers);
+        match (self.0, answer) {
+            (Fault::ReadOffset, Err(refusal)) if refusal.offset > 0 => {
+                return Err(Refusal::new(refusal.number, refusal.offset - 1));
+            }
+            (Fault::ReadBehind, Ok(count)) if count < numbers.len() => numbers[count] = 0,
+            (Fault::ReadOnRefusal, Err(_)) if !numbers.is_empty() => numbers[0] = 0,
+            (Fault::ReadShort, Ok(count)) if count == numbers.len() => return too_short(),
+            _ => {}
+        }
+        answer
+    }
+
+    fn write(&self, numbers: &[u16], sheet: &mut [u8]) -> Result<usize, Refusal> {
+        let answer = format::write(numbers, sheet);
+        match (self.0, answer) {
+            (Fault::WriteIndex, Err(refusal)) if refusal.offset > 0 => {
+                return Err(Refusal::new(refusal.number, refusal.offset * 2));
+            }
+            (Fault::WriteByte, Ok(count)) => sheet[count - 1] ^= 1,
+            (Fault::WriteBehind, Ok(count)) if count < sheet.len() => sheet[count] = 0,
+            _ => {}
+        }
+        answer
+    }
+
+    fn draw(&self, sheet: &[u8], places: &mut [u16], list: &mut [i32]) -> Result<u32, Refusal> {
+        let answer = engine::draw(sheet, places, list);
+        let total = match answer {
+            Ok(total) => total,
+            Err(_) => {
+                if self.0 == Fault::DrawOnRefusal && !places.is_empty() {
+                    places[0] = 0;
+                }
+                return answer;
+            }
+        };
+        let (place_count, list_length) = needed(sheet);
+        match self.0 {
+            Fault::DrawTotal => return Ok(total + 1),
+            Fault::DrawRightmost if sheet == loose().as_slice() => {
+                places[..place_count]
+                    .iter_mut()
+                    .for_each(|place| *place += 1);
+            }
+            Fault::DrawZeroList => list[..list_length].fill(0),
+            Fault::DrawBehindPlaces => places[place_count..].fill(0),
+            Fault::DrawBehindList => list[list_length..].fill(0),
+            Fault::DrawShort if places.len() < 4 => return too_short(),
+            Fault::DrawNothing => return Err(Refusal::new(NO_DRAWING, 0)),
+            _ => {}
+        }
+        answer
+    }
+
+    fn check(&self, sheet: &[u8], places: &[u16], list: &[i32]) -> Result<bool, Refusal> {
+        let answer = checker::check(sheet, places, list);
+        match (self.0, answer) {
+            (Fault::CheckYes, Ok(_)) => Ok(true),
+            (Fault::CheckNo, Ok(_)) => Ok(false),
+            (Fault::CheckShort, Err(Refusal { number: 7, .. })) => Ok(false),
+            (Fault::CheckPlaces, Ok(false)) => {
+                let mut best = vec![0; places.len()];
+                let drawn = engine::draw(sheet, &mut best, &mut vec![0; list.len()]);
+                drawn.map_or(Ok(false), |_| checker::check(sheet, &best, list))
+            }
+            (Fault::CheckWraps, Ok(_)) => {
+                let wrapped: Vec<i32> = list.iter().map(|n| n << 1 >> 1).collect();
+                checker::check(sheet, places, &wrapped)
+            }
+            _ => answer,
+        }
+    }
+}
+
+/// How many places and list numbers a good sheet needs.
+fn needed(bytes: &[u8]) -> (usize, usize) {
+    let mut numbers = [0; NUMBER_LIMIT];
+    let count = format::read(bytes, &mut numbers).expect("a good sheet");
+    let sheet = Sheet::from_numbers(&numbers[..count]);
+    (sheet.node_count(), certificate::length(&sheet))
+}
+
+/// The bytes of a sheet with several least drawings.
+fn loose() -> Vec<u8> {
+    document::stair(5, PLAIN).bytes()
+}
+
+/// Sheets of all kinds, good and bad.
+fn inputs() -> Vec<Vec<u8>> {
+    let mut random = Random::new(41);
+    let mut inputs: Vec<Vec<u8>> = REFUSED.iter().map(|(_, bytes)| bytes.to_vec()).collect();
+    inputs.extend(document::sheets().iter().map(|(_, draft)| draft.bytes()));
+    inputs.push(loose());
+    for _ in 0..300 {
+        let draft = generate::tiny(&mut random);
+        inputs.extend([draft.bytes(), mirrored(&draft).bytes()]);
+    }
+    inputs
+}
+
+/// Whether comparing an input finds a difference.
+fn is_found(fault: Fault, bytes: &[u8]) -> bool {
+    catch_unwind(AssertUnwindSafe(|| sheet(&Faulty(fault), bytes))).is_err()
+}
+
+#[test]
+fn a_library_without_fault_passes() {
+    let mut drawn = 0;
+    for bytes in inputs() {
+        drawn += usize::from(sheet(&Faulty(Fault::Nothing), &bytes).drawn.is_ok());
+    }
+    assert!(drawn > 100, "{drawn}");
+}
+
+#[test]
+fn every_fault_is_found() {
+    let inputs = inputs();
+    for fault in FAULTS {
+        let found = inputs.iter().any(|bytes| is_found(fault, bytes));
+        assert!(found, "{fault:?}");
+    }
+}

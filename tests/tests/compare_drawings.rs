@@ -1,0 +1,108 @@
+//! Drawings of the library, against those of the second implementation, and brute force.
+
+mod library;
+
+use library::Proved;
+use second::compare::{self, scale, Outcome, Tally};
+use second::draft::Draft;
+use second::drawing::{least_drawings, leftmost};
+use second::families::{exhaustive, realistic, sizes};
+use second::generate;
+use second::random::Random;
+
+/// Compares an answer with that of brute force.
+fn compare_with_brute_force(draft: &Draft, outcome: &Outcome) {
+    let expected = least_drawings(&draft.sheet());
+    let expected = expected.map(|(total, least)| (total, leftmost(&least)));
+    assert_eq!(outcome.drawn.clone().ok(), expected, "{draft:?}");
+}
+
+#[test]
+fn all_sheets_within_very_small_limits() {
+    let mut tally = Tally::default();
+    for draft in exhaustive::sheets() {
+        let outcome = compare::sheet(&Proved, &draft.bytes());
+        compare_with_brute_force(&draft, &outcome);
+        tally.add(&outcome);
+    }
+    tally.print("very small, all there are");
+    assert_eq!((tally.sheets, tally.undrawn()), (27_208, 18_300));
+    assert!(tally.drawn > 6_000 && tally.long > 1_000);
+}
+
+#[test]
+fn tiny_sheets() {
+    let mut random = Random::new(101);
+    let mut tally = Tally::default();
+    for _ in 0..10_000 * scale() {
+        let draft = generate::tiny(&mut random);
+        let outcome = compare::sheet(&Proved, &draft.bytes());
+        compare_with_brute_force(&draft, &outcome);
+        tally.add(&outcome);
+    }
+    tally.print("tiny");
+    assert!(tally.drawn > 4_000 && tally.long > 1_000 && tally.yes > 10_000);
+    assert!(tally.undrawn() > 2_000);
+}
+
+#[test]
+fn small_sheets() {
+    let tally = Tally::of_random(&Proved, "small", (102, 20_000), generate::small);
+    assert!(tally.drawn > 6_000 && tally.long > 4_000);
+    assert!(tally.undrawn() > 4_000);
+}
+
+#[test]
+fn sheets_of_any_numbers() {
+    let tally = Tally::of_random(&Proved, "any numbers", (103, 5_000), generate::good);
+    assert!(tally.drawn > 500 && tally.undrawn() > 1_000);
+}
+
+#[test]
+fn medium_sheets() {
+    let tally = Tally::of_random(&Proved, "medium", (104, 5_000), sizes::medium);
+    assert_eq!(tally.drawn, 5_000 * scale());
+    assert!(tally.long > tally.sheets / 2);
+}
+
+#[test]
+fn sheets_with_parallel_edges() {
+    let tally = Tally::of_random(&Proved, "parallel edges", (105, 3_000), sizes::parallel);
+    assert_eq!(tally.drawn, 3_000 * scale());
+    assert!(tally.long > tally.sheets / 2);
+}
+
+#[test]
+fn realistic_sheets() {
+    let tally = Tally::of_random(&Proved, "realistic", (106, 4_000), realistic::any);
+    assert!(tally.drawn > tally.sheets / 2 && tally.long > tally.sheets / 2);
+}
+
+/// Compares sheets of full size in this many layers.
+fn compare_full(layers: u16) {
+    let kind = format!("full size, {layers} layers");
+    let full = |random: &mut Random| sizes::full(random, layers);
+    let tally = Tally::of_random(&Proved, &kind, (110 + u64::from(layers), 200), full);
+    assert_eq!(tally.drawn, 200 * scale());
+    assert!(tally.long > tally.sheets / 2);
+}
+
+#[test]
+fn full_sheets_of_few_layers() {
+    compare_full(4);
+    compare_full(5);
+    compare_full(8);
+}
+
+#[test]
+fn full_sheets_of_many_layers() {
+    compare_full(16);
+    compare_full(32);
+    compare_full(64);
+}
+
+#[test]
+fn fullest_sheets() {
+    let tally = Tally::of(&Proved, "fullest", (1..=64).map(generate::fullest));
+    assert_eq!(tally.undrawn(), 64);
+}

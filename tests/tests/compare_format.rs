@@ -1,0 +1,166 @@
+//! Reading and writing by the library and the second implementation.
+
+mod library;
+
+use library::Proved;
+use second::compare::{self, grouped, scale, Library};
+use second::draft::encode;
+use second::generate;
+use second::random::Random;
+use second::refusal::Refusal;
+use second::sheet;
+
+/// Counts of answers by the number of the refusal; 0 is none.
+type Answers = [usize; 10];
+
+/// Counts one more answer.
+fn count<T>(answers: &mut Answers, answer: &Result<T, Refusal>) {
+    let number = answer.as_ref().err().map_or(0, |refusal| refusal.number);
+    answers[number as usize] += 1;
+}
+
+/// Prints the counts, and checks that answers have come up this many times.
+fn check_answers(kind: &str, answers: &Answers, least: &[(usize, usize)]) {
+    let sum = answers.iter().sum();
+    let mut line = format!("compared: {} {kind}", grouped(sum));
+    for (number, &count) in answers.iter().enumerate() {
+        match (number, count) {
+            (_, 0) => continue,
+            (0, _) => line += &format!(": {} taken", grouped(count)),
+            _ => line += &format!(", {} refused {number}", grouped(count)),
+        }
+    }
+    println!("{line}");
+    for &(number, least) in least {
+        assert!(answers[number] >= least, "{number}: {}", answers[number]);
+    }
+}
+
+#[test]
+fn good_sheets_are_read_and_written_back() {
+    let mut random = Random::new(171);
+    let mut answers = [0; 10];
+    let any = (0..20_000 * scale()).map(|_| generate::good(&mut random));
+    for draft in any.chain((1..=64).map(generate::fullest)) {
+        let bytes = draft.bytes();
+        let read = compare::read(&Proved, &bytes);
+        assert_eq!(read, Ok(draft.numbers()));
+        assert_eq!(compare::write(&Proved, &draft.numbers()), Ok(bytes));
+        count(&mut answers, &read);
+    }
+    check_answers("good sheets read and written", &answers, &[(0, 20_064)]);
+}
+
+/// A number list near that of a good sheet.
+fn near_list(random: &mut Random) -> Vec<u16> {
+    let mut numbers = generate::good(random).numbers();
+    let values = [0, 1, 2, 64, 65, 512, 513, 4095, 4096, 16384, 32768, 65535];
+    for _ in 0..random.within(1..=2) {
+        let i = random.index(numbers.len());
+        match random.within(0..=5) {
+            0 => numbers.truncate(i),
+            1 => numbers.push(random.within(0..=9)),
+            2 => numbers[i] = values[random.index(values.len())],
+            3 => numbers[i] = random.within(0..=65535),
+            4 => numbers[i] = numbers[i].wrapping_add(1),
+            _ => numbers[i] = numbers[i].wrapping_sub(1),
+        }
+        if numbers.is_empty() {
+            break;
+        }
+    }
+    numbers
+}
+
+#[test]
+fn number_lists_near_good_ones_are_written() {
+    let mut random = Random::new(172);
+    let mut answers = [0; 10];
+    for _ in 0..40_000 * scale() {
+        let numbers = near_list(&mut random);
+        let written = compare::write(&Proved, &numbers);
+        count(&mut answers, &written);
+        if let Ok(bytes) = written {
+            assert_eq!(compare::read(&Proved, &bytes), Ok(numbers));
+        }
+    }
+    let least = [(0, 4_000), (1, 4_000), (4, 8_000), (5, 500), (6, 4_000)];
+    check_answers("number lists written", &answers, &least);
+}
+
+#[test]
+fn bytes_near_good_ones_are_read() {
+    let mut random = Random::new(173);
+    let mut answers = [0; 10];
+    for _ in 0..40_000 * scale() {
+        let mut numbers = near_list(&mut random);
+        for n in &mut numbers {
+            *n = (*n).min(16383);
+        }
+        let mut bytes = encode(&numbers);
+        if random.once_in(3) {
+            let i = random.index(bytes.len());
+            bytes[i] = random.within(0..=255) as u8;
+        }
+        count(&mut answers, &compare::read(&Proved, &bytes));
+    }
+    let least = [
+        (0, 3_000),
+        (1, 4_000),
+        (2, 1_000),
+        (3, 1_000),
+        (4, 9_000),
+        (5, 2_000),
+        (6, 3_000),
+    ];
+    check_answers("byte strings read", &answers, &least);
+}
+
+#[test]
+fn slices_of_every_length() {
+    let mut random = Random::new(174);
+    let mut answers = [0; 10];
+    for _ in 0..300 * scale() {
+        let draft = generate::small(&mut random);
+        let (numbers, bytes) = (draft.numbers(), draft.bytes());
+        for length in 0..=numbers.len() + 2 {
+            let (mut ours, mut theirs) = (vec![77; length], vec![77; length]);
+            let expected = sheet::read(&bytes, &mut ours);
+            assert_eq!(Proved.read(&bytes, &mut theirs), expected);
+            assert_eq!(theirs, ours);
+            count(&mut answers, &expected);
+        }
+        for length in 0..=bytes.len() + 2 {
+            let (mut ours, mut theirs) = (vec![77; length], vec![77; length]);
+            let expected = sheet::write(&numbers, &mut ours);
+            assert_eq!(Proved.write(&numbers, &mut theirs), expected);
+            assert_eq!(theirs, ours);
+            count(&mut answers, &expected);
+        }
+    }
+    check_answers("slices", &answers, &[(0, 1_800), (7, 20_000)]);
+}
+
+#[test]
+fn inputs_and_slices_longer_than_any_sheet() {
+    let mut random = Random::new(175);
+    let mut answers = [0; 10];
+    for layers in 1..=64 {
+        let draft = generate::fullest(layers);
+        for length in [1, 2, 2_055, 5_122, 70_000] {
+            let tail: Vec<u16> = (0..length).map(|_| random.within(0..=1)).collect();
+            let numbers = [draft.numbers(), tail].concat();
+            count(&mut answers, &compare::write(&Proved, &numbers));
+            count(&mut answers, &compare::read(&Proved, &encode(&numbers)));
+        }
+        let (mut numbers, mut bytes) = (vec![77; 100_000], vec![77; 100_000]);
+        let read = Proved.read(&draft.bytes(), &mut numbers);
+        assert_eq!(read, Ok(draft.numbers().len()));
+        assert!(numbers[draft.numbers().len()..].iter().all(|&n| n == 77));
+        let written = Proved.write(&draft.numbers(), &mut bytes);
+        assert_eq!(written, Ok(draft.bytes().len()));
+        assert!(bytes[draft.bytes().len()..].iter().all(|&byte| byte == 77));
+        count(&mut answers, &read);
+    }
+    check_answers("long inputs and slices", &answers, &[(0, 64), (6, 640)]);
+}

@@ -1,0 +1,138 @@
+//! Sheets that just have a drawing, and others that just have none, drawn by the library and the
+//! second implementation.
+
+mod library;
+
+use library::Proved;
+use second::compare::{self, scale, Tally};
+use second::draft::Draft;
+use second::families::conflicts::{any_spiral, crossed, held, spiral};
+use second::families::turned::{mirrored, upside_down};
+use second::families::{realistic, sizes, widths};
+use second::generate;
+use second::random::Random;
+
+/// Compares sheets in the narrowest width in which they have a drawing, and next to it.
+fn compare_narrowest(kind: &str, seed: u64, count: usize, draft: impl Fn(&mut Random) -> Draft) {
+    let mut random = Random::new(seed);
+    let mut tally = Tally::default();
+    let mut is_drawn = |draft: &Draft, width: u16| {
+        let narrow = widths::in_width(draft, width);
+        let outcome = compare::sheet(&Proved, &narrow.bytes());
+        tally.add(&outcome);
+        outcome.drawn.is_ok()
+    };
+    for _ in 0..count * scale() {
+        let draft = draft(&mut random);
+        if let Some(width) = widths::narrowest(&draft) {
+            assert!(is_drawn(&draft, width) && is_drawn(&draft, width + 1));
+            assert!(width == 0 || !is_drawn(&draft, width - 1));
+        }
+    }
+    tally.print(kind);
+    assert!(tally.undrawn() > count / 3 && tally.long > count / 4);
+}
+
+#[test]
+fn small_sheets_in_the_narrowest_width() {
+    compare_narrowest("narrowest, small", 130, 3_000, generate::small);
+}
+
+#[test]
+fn realistic_sheets_in_the_narrowest_width() {
+    compare_narrowest("narrowest, realistic", 131, 500, realistic::any);
+}
+
+#[test]
+fn full_sheets_in_the_narrowest_width() {
+    let full = |random: &mut Random| {
+        let layers = [4, 8, 64][random.index(3)];
+        sizes::full(random, layers)
+    };
+    compare_narrowest("narrowest, full size", 132, 100, full);
+}
+
+/// Compares sheets in which something is missing or not, each also turned around both ways.
+fn compare_missing(kind: &str, drafts: impl Iterator<Item = (u16, Draft)>) -> Tally {
+    let mut tally = Tally::default();
+    for (missing, draft) in drafts {
+        for draft in [mirrored(&draft), upside_down(&draft), draft] {
+            let outcome = compare::sheet(&Proved, &draft.bytes());
+            assert_eq!(outcome.drawn.is_ok(), missing == 0, "{draft:?}");
+            tally.add(&outcome);
+        }
+    }
+    tally.print(kind);
+    tally
+}
+
+#[test]
+fn spirals_of_steps_of_1() {
+    let lengths = (2..=64).flat_map(|layers| [(0, layers), (1, layers)]);
+    let drafts = lengths.map(|(missing, layers)| (missing, spiral(&vec![1; layers], missing)));
+    let tally = compare_missing("spirals of steps of 1", drafts);
+    assert_eq!((tally.drawn, tally.undrawn()), (189, 189));
+}
+
+#[test]
+fn random_spirals() {
+    let mut random = Random::new(133);
+    let missing = (0..400 * scale()).map(|i| i as u16 % 2);
+    let drafts = missing.map(|missing| (missing, any_spiral(&mut random, missing)));
+    let tally = compare_missing("random spirals", drafts);
+    assert_eq!(tally.drawn, 600 * scale());
+    assert_eq!(tally.undrawn(), 600 * scale());
+}
+
+#[test]
+fn maxima_against_minima_through_straight_edges() {
+    let mut random = Random::new(134);
+    let missing = (0..1_500 * scale()).map(|i| i as u16 % 3);
+    let drafts = missing.map(|missing| (missing, held(&mut random, missing)));
+    let tally = compare_missing("maxima against minima", drafts);
+    assert_eq!(tally.drawn, 1_500 * scale());
+    assert_eq!(tally.undrawn(), 3_000 * scale());
+}
+
+#[test]
+fn straight_edges_that_cross() {
+    let mut random = Random::new(135);
+    let mut tally = Tally::default();
+    for i in 0..1_000 * scale() {
+        let draft = match i % 10 {
+            0 => sizes::full(&mut random, 8),
+            1..=4 => realistic::any(&mut random),
+            _ => sizes::medium(&mut random),
+        };
+        if let Some(crossed) = crossed(&mut random, &draft) {
+            tally.add(&compare::sheet(&Proved, &crossed.bytes()));
+        }
+    }
+    tally.print("crossing straight edges");
+    assert_eq!(tally.undrawn(), tally.sheets);
+    assert!(tally.undrawn() > 900);
+}
+
+#[test]
+fn turned_sheets_keep_their_totals() {
+    let mut random = Random::new(136);
+    let (mut tally, mut tally_turned) = (Tally::default(), Tally::default());
+    for _ in 0..1_500 * scale() {
+        let draft = match random.within(0..=2) {
+            0 => generate::small(&mut random),
+            1 => sizes::medium(&mut random),
+            _ => realistic::any(&mut random),
+        };
+        let outcome = compare::sheet(&Proved, &draft.bytes());
+        let total = outcome.drawn.as_ref().map(|&(total, _)| total);
+        for turned in [mirrored(&draft), upside_down(&draft)] {
+            let other = compare::sheet(&Proved, &turned.bytes());
+            let other_total = other.drawn.as_ref().map(|&(total, _)| total);
+            assert_eq!(other_total, total, "{draft:?}");
+            tally_turned.add(&other);
+        }
+        tally.add(&outcome);
+    }
+    tally_turned.print("mirrored and upside down");
+    assert!(tally.long > 500 && tally.undrawn() > 100);
+}

@@ -1,0 +1,30 @@
+//! The proved library, for comparing it with the second implementation.
+
+use second::compare::Library;
+use second::refusal::Refusal;
+
+/// The library through its Rust wrapper.
+pub struct Proved;
+
+impl Library for Proved {
+    fn read(&self, sheet: &[u8], numbers: &mut [u16]) -> Result<usize, Refusal> {
+        strip::read(sheet, numbers).map_err(refusal)
+    }
+
+    fn write(&self, numbers: &[u16], sheet: &mut [u8]) -> Result<usize, Refusal> {
+        strip::write(numbers, sheet).map_err(refusal)
+    }
+
+    fn draw(&self, sheet: &[u8], places: &mut [u16], list: &mut [i32]) -> Result<u32, Refusal> {
+        strip::draw(sheet, places, list).map_err(refusal)
+    }
+
+    fn check(&self, sheet: &[u8], places: &[u16], list: &[i32]) -> Result<bool, Refusal> {
+        strip::check(sheet, places, list).map_err(refusal)
+    }
+}
+
+/// A refusal of the wrapper as one of this package.
+fn refusal(refusal: strip::Refusal) -> Refusal {
+    Refusal::new(refusal.number, refusal.offset as usize)
+}

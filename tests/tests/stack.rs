@@ -1,0 +1,81 @@
+//! The functions use no more stack than the header says, on sheets of full size.
+
+mod tools;
+
+use std::fs;
+use std::process::Command;
+
+use second::planted::{planted, Plan};
+use second::random::Random;
+use second::sheet::{EDGE_LIMIT, NODE_LIMIT};
+use tools::{compiler, folder, output, LIBRARY};
+
+/// Sheets of full size that leave little room to move.
+const TIGHT: Plan = Plan {
+    layers: 8,
+    nodes: NODE_LIMIT,
+    edges: EDGE_LIMIT,
+    distance: 3,
+    play: 1,
+    margin: 0,
+    straight: 1,
+    maximum: 2,
+};
+/// Sheets of full size in which nodes can move far.
+const WIDE: Plan = Plan {
+    distance: 60,
+    play: 50,
+    margin: 2000,
+    straight: 2,
+    maximum: 4,
+    ..TIGHT
+};
+
+/// Sheets of full size, some of each kind.
+fn sheets() -> Vec<Vec<u8>> {
+    let mut random = Random::new(47);
+    let mut sheets = Vec::new();
+    for layers in [4, 8, 64] {
+        for plan in [TIGHT, WIDE] {
+            for _ in 0..10 {
+                let plan = Plan { layers, ..plan };
+                sheets.push(planted(&mut random, &plan).bytes());
+            }
+        }
+    }
+    sheets
+}
+
+/// What the C program prints for these sheets.
+fn measure(sheets: &[Vec<u8>]) -> String {
+    let folder = folder("stack");
+    let program = folder.join("stack");
+    let mut compiler = compiler("gcc", "c99");
+    compiler.arg("tests/c/stack.c").args(LIBRARY);
+    output(compiler.arg("-pthread").arg("-o").arg(&program));
+    let mut command = Command::new(program);
+    for (i, sheet) in sheets.iter().enumerate() {
+        let path = folder.join(format!("{i}.sheet"));
+        fs::write(&path, sheet).expect("a sheet can be written");
+        command.arg(path);
+    }
+    output(&mut command)
+}
+
+/// The name and the stack of a function, from a line of the C program.
+fn name_and_bytes(line: &str) -> (&str, usize) {
+    let (name, bytes) = line.split_once(' ').expect("a name and a number");
+    (name, bytes.parse().expect("a number"))
+}
+
+#[test]
+fn stack_is_as_the_header_says() {
+    let printed = measure(&sheets());
+    let (names, stacks): (Vec<&str>, Vec<usize>) = printed.lines().map(name_and_bytes).unzip();
+    assert_eq!(names, ["read", "write", "draw", "check"]);
+    // The header's number is the greatest one in whole pages, with at most one page to spare.
+    let page = 4096;
+    let greatest = stacks.iter().max().expect("four numbers").div_ceil(page);
+    let said = strip::STACK_BYTES / page;
+    assert!(greatest <= said && said <= greatest + 1, "{printed}");
+}

@@ -1,0 +1,48 @@
+//! Compilers and other programs, run from the root of the repository.
+
+use std::fs;
+use std::path::{Path, PathBuf};
+use std::process::Command;
+
+/// The header and the static library, as a compiler takes them; not every test file needs them.
+#[allow(dead_code)]
+pub const LIBRARY: [&str; 2] = ["-Icrates/strip/include", "target/staticlib/libstrip.a"];
+
+/// The root of the repository.
+pub fn root() -> PathBuf {
+    Path::new(env!("CARGO_MANIFEST_DIR")).join("..")
+}
+
+/// An empty folder for a test; names differ between tests.
+pub fn folder(name: &str) -> PathBuf {
+    let folder = Path::new(env!("CARGO_TARGET_TMPDIR")).join(name);
+    if folder.exists() {
+        fs::remove_dir_all(&folder).expect("the folder of an earlier run can be removed");
+    }
+    fs::create_dir_all(&folder).expect("a folder can be made");
+    folder
+}
+
+/// What a command prints. It must be there and succeed.
+pub fn output(command: &mut Command) -> String {
+    let output = match command.current_dir(root()).output() {
+        Ok(output) => output,
+        Err(error) => panic!("cannot run {:?}: {error}", command.get_program()),
+    };
+    let printed = String::from_utf8_lossy(&output.stdout);
+    assert!(
+        output.status.success(),
+        "{command:?}: {}\n{printed}{}",
+        output.status,
+        String::from_utf8_lossy(&output.stderr)
+    );
+    printed.into_owned()
+}
+
+/// A command that compiles and allows no warning.
+pub fn compiler(name: &str, standard: &str) -> Command {
+    let mut command = Command::new(name);
+    command.arg(format!("-std={standard}"));
+    command.args(["-Wall", "-Wextra", "-pedantic", "-Werror"]);
+    command
+}
