@@ -25,19 +25,43 @@ part-load-numbers-start : tie.Need-part-load-numbers-start
 part-load-numbers-start c = search needs
 
 part-load-numbers-end : tie.Need-part-load-numbers-end
-part-load-numbers-end c = let h = done-room (c .before .before .before .before .before .before .before .before .before .args .bytes .now) _ _ (c .before .before .before .before .before .read .ensures .0) (c .before .before .before .before .before .read .ensures .1) (c .before .before .answer2 .given .1) in omega arith
+part-load-numbers-end c =
+    let start = c .before .before .before .before .before .before .before .before .before in
+    let read = c .before .before .before .before .before .read in
+    let h =
+        done-room (start .args .bytes .now) _ _ (read .ensures .0) (read .ensures .1)
+        (c .before .before .answer2 .given .1) in
+    omega arith
 
 load-numbers-requires : tie.Need-load-numbers-requires
-load-numbers-requires c κs = done-good (c .before .before .before .before .before .before .before .before .before .before .before .args .bytes .now) _ _ (c .before .before .before .before .before .before .before .read .ensures .0) (c .before .before .before .before .before .before .before .read .ensures .1) (c .before .before .before .before .answer2 .given .1)
+load-numbers-requires c κs =
+    let start = c .before .before .before .before .before .before .before .before .before .before .before in
+    let read = c .before .before .before .before .before .before .before .read in
+    let answer2 = c .before .before .before .before .answer2 in
+    done-good (start .args .bytes .now) _ _ (read .ensures .0) (read .ensures .1) (answer2 .given .1)
 
 returns : tie.Need-returns
-returns c = (refused-answer (c .before .before .before .before .before .before .before .before .args .bytes .now) _ _ (c .before .before .before .before .read .ensures .0) (c .before .before .before .before .read .ensures .1) (omega arith) (c .before .answer .given .1) (length (c .before .before .before .before .before .before .before .before .args .arcs .now)), refused-slice (c .before .before .before .before .before .before .before .before .args .bytes .now) _ _ (c .before .before .before .before .read .ensures .0) (c .before .before .before .before .read .ensures .1) (omega arith) (c .before .answer .given .1) (c .before .before .before .before .before .before .before .before .args .arcs .now))
+returns c =
+    let start = c .before .before .before .before .before .before .before .before in
+    let read = c .before .before .before .before .read in
+    (refused-answer (start .args .bytes .now) _ _ (read .ensures .0) (read .ensures .1) (omega arith)
+    (c .before .answer .given .1) (length (start .args .arcs .now)),
+    refused-slice (start .args .bytes .now) _ _ (read .ensures .0) (read .ensures .1) (omega arith)
+    (c .before .answer .given .1) (start .args .arcs .now))
 
 same-length : tie.Need-same-length
 same-length c = search needs
 
 returns-2 : tie.Need-returns-2
-returns-2 c = (done-answer (c .before .before .before .before .before .before .before .before .before .before .before .before .before .before .args .bytes .now) _ _ (c .before .before .before .before .before .before .before .before .before .before .read .ensures .0) (c .before .before .before .before .before .before .before .before .before .before .read .ensures .1) (c .before .before .before .before .before .before .before .answer2 .given .1) _ (c .before .before .load-numbers .ensures .0), done-slice (c .before .before .before .before .before .before .before .before .before .before .before .before .before .before .args .bytes .now) _ _ (c .before .before .before .before .before .before .before .before .before .before .read .ensures .0) (c .before .before .before .before .before .before .before .before .before .before .read .ensures .1) (c .before .before .before .before .before .before .before .answer2 .given .1) (c .before .before .before .before .before .before .before .before .before .before .before .before .before .before .args .arcs .now) (c .before .before .load-numbers .ensures .1))
+returns-2 c =
+    let start = c .before .before .before .before .before .before .before .before .before .before .before .before .before .before in
+    let read = c .before .before .before .before .before .before .before .before .before .before .read in
+    let answer2 = c .before .before .before .before .before .before .before .answer2 in
+    let load-numbers = c .before .before .load-numbers in
+    (done-answer (start .args .bytes .now) _ _ (read .ensures .0) (read .ensures .1) (answer2 .given .1) _
+    (load-numbers .ensures .0),
+    done-slice (start .args .bytes .now) _ _ (read .ensures .0) (read .ensures .1) (answer2 .given .1)
+    (start .args .arcs .now) (load-numbers .ensures .1))
 
 pub load-spec : {M : Type 1} → statement M
 load-spec =

@@ -13,16 +13,29 @@ plan-requires : tie.Need-plan-requires
 plan-requires c κs = search needs
 
 mul-count : tie.Need-mul-count
-mul-count c = omega (arith, nodes-few (c .before .before .before .before .before .pre) (c .before .plan .ensures), edges-there (c .before .before .before .before .before .pre) (c .before .plan .ensures) .1)
+mul-count c =
+    let start = c .before .before .before .before .before in
+    omega
+    (arith, nodes-few (start .pre) (c .before .plan .ensures), edges-there (start .pre) (c .before .plan .ensures) .1)
 
 add-count : tie.Need-add-count
-add-count c = omega (arith, nodes-few (c .before .before .before .before .before .pre) (c .before .plan .ensures), edges-there (c .before .before .before .before .before .pre) (c .before .plan .ensures) .1)
+add-count c =
+    let start = c .before .before .before .before .before in
+    omega
+    (arith, nodes-few (start .pre) (c .before .plan .ensures), edges-there (start .pre) (c .before .plan .ensures) .1)
 
 mul-if1 : tie.Need-mul-if1
-mul-if1 c = omega (arith, nodes-few (c .before .before .before .before .before .pre) (c .before .plan .ensures), edges-there (c .before .before .before .before .before .pre) (c .before .plan .ensures) .1)
+mul-if1 c =
+    let start = c .before .before .before .before .before in
+    omega
+    (arith, nodes-few (start .pre) (c .before .plan .ensures), edges-there (start .pre) (c .before .plan .ensures) .1)
 
 returns : tie.Need-returns
-returns c = (too-short-answer (c .before .before .before .before .before .before .pre) (c .before .before .plan .ensures) (c .before .before .before .before .before .before .args .arcs .now) (c .if1 .taken), too-short-slice (c .before .before .before .before .before .before .pre) (c .before .before .plan .ensures) (c .before .before .before .before .before .before .args .arcs .now) (c .if1 .taken))
+returns c =
+    let start = c .before .before .before .before .before .before in
+    let plan = c .before .before .plan in
+    (too-short-answer (start .pre) (plan .ensures) (start .args .arcs .now) (c .if1 .taken),
+    too-short-slice (start .pre) (plan .ensures) (start .args .arcs .now) (c .if1 .taken))
 
 number-requires : tie.Need-number-requires
 number-requires c κs = search needs
@@ -37,7 +50,15 @@ same-length : tie.Need-same-length
 same-length c = search needs
 
 returns-2 : tie.Need-returns-2
-returns-2 c = (long-enough-answer (c .before .before .before .before .before .before .before .before .before .before .before .before .pre) (c .before .before .before .before .before .before .before .before .plan .ensures) (c .before .before .before .before .before .before .before .before .before .before .before .before .args .arcs .now) (c .before .before .before .before .before .number .ensures) (omega (arith, c .before .before .before .before .before .before .if1 .left)), long-enough-slice (c .before .before .before .before .before .before .before .before .before .before .before .before .pre) (c .before .before .before .before .before .before .before .before .plan .ensures) (c .before .before .before .before .before .before .before .before .before .before .before .before .args .arcs .now) (c .before .before .before .before .before .number .ensures) (omega (arith, c .before .before .before .before .before .before .if1 .left)) (c .before .before .fill .ensures))
+returns-2 c =
+    let start = c .before .before .before .before .before .before .before .before .before .before .before .before in
+    let plan = c .before .before .before .before .before .before .before .before .plan in
+    let if1 = c .before .before .before .before .before .before .if1 in
+    let number = c .before .before .before .before .before .number in
+    (long-enough-answer (start .pre) (plan .ensures) (start .args .arcs .now) (number .ensures)
+    (omega (arith, if1 .left)),
+    long-enough-slice (start .pre) (plan .ensures) (start .args .arcs .now) (number .ensures) (omega (arith, if1 .left))
+    (c .before .before .fill .ensures))
 
 pub load-numbers-spec : {M : Type 1} → statement M
 load-numbers-spec =

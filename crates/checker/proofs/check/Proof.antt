@@ -24,15 +24,28 @@ slice-aggregate-check-loaded : tie.Need-slice-aggregate-check-loaded
 slice-aggregate-check-loaded c = search needs
 
 check-loaded-requires : tie.Need-check-loaded-requires
-check-loaded-requires c κs = loaded-holds (loaded-sheet (c .before .before .before .before .before .before .before .before .before .args .bytes .now) _ (c .before .before .counts .given .1) (c .before .before .before .before .before .load .ensures .0) (c .before .before .before .before .before .load .ensures .1))
+check-loaded-requires c κs =
+    let start = c .before .before .before .before .before .before .before .before .before in
+    let load = c .before .before .before .before .before .load in
+    loaded-holds
+    (loaded-sheet (start .args .bytes .now) _ (c .before .before .counts .given .1) (load .ensures .0) (load .ensures .1))
 
 returns : tie.Need-returns
-returns c = refused-answer (c .before .before .before .before .before .before .before .before .args .bytes .now) (reader-refused (c .before .before .before .before .before .before .before .before .args .bytes .now) _ (omega arith) (c .before .r .given .1) (c .before .before .before .before .load .ensures .0)) (c .before .before .before .before .before .before .before .before .args .places .now) (c .before .before .before .before .before .before .before .before .args .list .now)
+returns c =
+    let start = c .before .before .before .before .before .before .before .before in
+    let load = c .before .before .before .before .load in
+    refused-answer (start .args .bytes .now)
+    (reader-refused (start .args .bytes .now) _ (omega arith) (c .before .r .given .1) (load .ensures .0))
+    (start .args .places .now) (start .args .list .now)
 
 returns-2 : tie.Need-returns-2
 returns-2 c =
-    let l = loaded-sheet (c .before .before .before .before .before .before .before .before .before .before .args .bytes .now) _ (c .before .before .before .counts .given .1) (c .before .before .before .before .before .before .load .ensures .0) (c .before .before .before .before .before .before .load .ensures .1) in
-    c .check-loaded .ensures ∙ loaded-answer l (c .before .before .before .before .before .before .before .before .before .before .args .places .now) (c .before .before .before .before .before .before .before .before .before .before .args .list .now)
+    let start = c .before .before .before .before .before .before .before .before .before .before in
+    let load = c .before .before .before .before .before .before .load in
+    let l =
+        loaded-sheet (start .args .bytes .now) _ (c .before .before .before .counts .given .1) (load .ensures .0)
+        (load .ensures .1) in
+    c .check-loaded .ensures ∙ loaded-answer l (start .args .places .now) (start .args .list .now)
 
 pub check-spec : {M : Type 1} → statement M
 check-spec =

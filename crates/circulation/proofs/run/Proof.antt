@@ -18,7 +18,10 @@ use Rattle.circulation.proofs.run.Statement.{statement}
 use Rattle.circulation.proofs.run.Tie as tie
 
 abbrev Inv-loop : tie.InvT-loop
-Inv-loop arcs flows₀ nodes₀ chains₀ flows nodes chains = State (net arcs (length flows₀)) (potentials nodes) flows (column 1 nodes) × (length nodes ≡ length nodes₀) × (length chains ≡ length chains₀)
+Inv-loop arcs flows₀ nodes₀ chains₀ flows nodes chains =
+    State (net arcs (length flows₀)) (potentials nodes) flows (column 1 nodes)
+    × (length nodes ≡ length nodes₀)
+    × (length chains ≡ length chains₀)
 
 abbrev μ-loop : tie.MeasureT-loop
 μ-loop arcs flows₀ nodes₀ chains₀ flows nodes chains = surplus (length nodes₀ / node-stride) (at (column 1 nodes))
@@ -27,16 +30,33 @@ count-of-requires : tie.Need-count-of-requires Inv-loop μ-loop
 count-of-requires c κs = search needs
 
 link-all-requires : tie.Need-link-all-requires Inv-loop μ-loop
-link-all-requires c κs = subst (λ (n : ℕ). WellFormed (net (c .before .before .before .before .before .before .before .args .arcs .now) (length (c .before .before .before .before .before .before .before .args .flows .now))) n) (sym (c .count-of .ensures)) (c .before .before .before .before .before .before .before .pre .wf)
+link-all-requires c κs =
+    let start = c .before .before .before .before .before .before .before in
+    subst (λ (n : ℕ). WellFormed (net (start .args .arcs .now) (length (start .args .flows .now))) n)
+    (sym (c .count-of .ensures)) (start .pre .wf)
 
 saturate-requires : tie.Need-saturate-requires Inv-loop μ-loop
-saturate-requires c κs = c .before .before .before .before .before .before .before .before .before .before .before .before .pre
+saturate-requires c κs =
+    let start = c .before .before .before .before .before .before .before .before .before .before .before .before in
+    start .pre
 
 count-need-requires : tie.Need-count-need-requires Inv-loop μ-loop
-count-need-requires c κs = (rw (c .before .before .before .before .saturate .kept .1 .0) (c .before .before .before .before .before .before .before .before .before .before .before .before .before .before .before .before .before .pre .wf), λ i l. first-near (at (potentials (c .before .before .before .before .before .before .before .before .before .before .before .before .before .before .before .before .before .args .nodes .now))) (at (c .before .before .before .before .saturate .last .1 .0)) (c .before .before .before .before .before .before .before .before .before .before .before .before .before .before .before .before .before .pre .wf) (c .before .before .before .before .before .before .before .before .before .before .before .before .before .before .before .before .before .pre .feasible) (c .before .before .before .before .saturate .ensures) i (omega (arith, c .before .before .before .before .saturate .kept .1 .0)))
+count-need-requires c κs =
+    let start = c .before .before .before .before .before .before .before .before .before .before .before .before .before .before .before .before .before in
+    let saturate = c .before .before .before .before .saturate in
+    (rw (saturate .kept .1 .0) (start .pre .wf),
+    λ i l. first-near (at (potentials (start .args .nodes .now))) (at (saturate .last .1 .0)) (start .pre .wf)
+    (start .pre .feasible) (saturate .ensures) i (omega (arith, saturate .kept .1 .0)))
 
 loop-holds : tie.Need-loop-holds Inv-loop μ-loop
-loop-holds c = (run-start (c .before .before .before .before .before .before .before .before .before .before .before .before .before .before .before .before .before .before .before .before .args .arcs .now) (c .before .before .before .before .before .before .before .before .before .before .before .before .before .before .before .before .before .before .before .before .args .flows .now) (c .before .before .before .before .before .before .before .saturate .last .1 .0) (c .before .before .before .before .before .before .before .before .before .before .before .before .before .before .before .before .before .before .before .before .args .nodes .now) (c .before .before .count-need .last .1 .1 .0) (c .before .before .before .before .before .before .before .before .before .before .before .before .before .before .before .before .before .before .before .before .pre) (c .before .before .before .before .before .before .before .saturate .kept .1 .0) (c .before .before .before .before .before .before .before .saturate .ensures) (c .before .before .count-need .ensures .0) (c .before .before .count-need .ensures .1), refl, refl)
+loop-holds c =
+    let start = c .before .before .before .before .before .before .before .before .before .before .before .before .before .before .before .before .before .before .before .before in
+    let saturate = c .before .before .before .before .before .before .before .saturate in
+    let count-need = c .before .before .count-need in
+    (run-start (start .args .arcs .now) (start .args .flows .now) (saturate .last .1 .0) (start .args .nodes .now)
+    (count-need .last .1 .1 .0) (start .pre) (saturate .kept .1 .0) (saturate .ensures) (count-need .ensures .0)
+    (count-need .ensures .1),
+    refl, refl)
 
 source-requires : tie.Need-source-requires Inv-loop μ-loop
 source-requires c κs = omega (arith, c .before .loop .inv .0 .wf .nodes, column-length 0 (c .before .loop .nodes))
@@ -48,28 +68,76 @@ enum-told : tie.Need-enum-told Inv-loop μ-loop
 enum-told c = search needs
 
 same-length : tie.Need-same-length Inv-loop μ-loop
-same-length c = omega (arith, c .before .before .before .before .loop .inv .0 .x-size, c .before .before .before .before .before .before .before .before .before .before .before .before .saturate .kept .1 .0)
+same-length c =
+    let saturate = c .before .before .before .before .before .before .before .before .before .before .before .before .saturate in
+    let loop = c .before .before .before .before .loop in
+    omega (arith, loop .inv .0 .x-size, saturate .kept .1 .0)
 
 same-length-2 : tie.Need-same-length-2 Inv-loop μ-loop
-same-length-2 c = c .before .before .before .before .loop .inv .1 ∙ c .before .before .before .before .before .before .before .count-need .ensures .1 .length-same
+same-length-2 c =
+    let count-need = c .before .before .before .before .before .before .before .count-need in
+    let loop = c .before .before .before .before .loop in
+    loop .inv .1 ∙ count-need .ensures .1 .length-same
 
 same-length-3 : tie.Need-same-length-3 Inv-loop μ-loop
-same-length-3 c = c .before .before .before .before .loop .inv .2 ∙ c .before .before .before .before .before .before .before .before .before .before .before .before .before .before .before .before .before .link-all .kept .1 .0
+same-length-3 c =
+    let link-all = c .before .before .before .before .before .before .before .before .before .before .before .before .before .before .before .before .before .link-all in
+    let loop = c .before .before .before .before .loop in
+    loop .inv .2 ∙ link-all .kept .1 .0
 
 returns : tie.Need-returns Inv-loop μ-loop
-returns c = subst (λ (m : ℕ). Ends (net (c .before .before .before .before .before .before .before .before .before .before .before .before .before .before .before .before .before .before .before .before .before .before .before .before .before .args .arcs .now) m) (size (c .before .before .before .before .before .before .before .before .before .before .before .before .before .before .before .before .before .before .before .before .before .before .before .before .before .args .nodes .now)) (c .before .before .before .before .loop .flows) (c .before .before .before .before .loop .nodes)) (c .before .before .before .before .before .before .before .before .before .before .before .before .saturate .kept .1 .0) (c .before .before .before .before .loop .inv .0, subst (λ (n : ℕ). Balanced (net (c .before .before .before .before .before .before .before .before .before .before .before .before .before .before .before .before .before .before .before .before .before .before .before .before .before .args .arcs .now) (length (c .before .before .before .before .before .before .before .before .before .before .before .before .saturate .last .1 .0))) n (at (c .before .before .before .before .loop .flows))) (column-length 0 (c .before .before .before .before .loop .nodes) ∙ ap (λ (k : ℕ). k / node-stride) (c .before .before .before .before .loop .inv .1 ∙ c .before .before .before .before .before .before .before .count-need .ensures .1 .length-same)) (solved (c .before .before .before .before .loop .inv .0) (λ v l. (rw (c .enum-told .given .1) at (c .before .before .source .ensures)) v (omega (arith, column-length 0 (c .before .before .before .before .loop .nodes)))) .1))
+returns c =
+    let start = c .before .before .before .before .before .before .before .before .before .before .before .before .before .before .before .before .before .before .before .before .before .before .before .before .before in
+    let saturate = c .before .before .before .before .before .before .before .before .before .before .before .before .saturate in
+    let count-need = c .before .before .before .before .before .before .before .count-need in
+    let loop = c .before .before .before .before .loop in
+    subst
+    (λ (m : ℕ). Ends (net (start .args .arcs .now) m) (size (start .args .nodes .now)) (loop .flows) (loop .nodes))
+    (saturate .kept .1 .0)
+    (loop .inv .0,
+    subst (λ (n : ℕ). Balanced (net (start .args .arcs .now) (length (saturate .last .1 .0))) n (at (loop .flows)))
+    (column-length 0 (loop .nodes) ∙ ap (λ (k : ℕ). k / node-stride) (loop .inv .1 ∙ count-need .ensures .1 .length-same))
+    (solved (loop .inv .0)
+    (λ v l. (rw (c .enum-told .given .1) at (c .before .before .source .ensures)) v
+    (omega (arith, column-length 0 (loop .nodes)))) .1))
 
 search-requires : tie.Need-search-requires Inv-loop μ-loop
-search-requires c κs = (rw (c .before .before .before .before .before .before .before .before .loop .inv .0 .x-size) (c .before .before .before .before .before .before .before .before .loop .inv .0), ((rw (c .before .before .before .before .s .given .1) at (c .before .before .before .before .before .before .source .ensures)) .0, (rw (c .before .before .before .before .s .given .1) at (c .before .before .before .before .before .before .source .ensures)) .1))
+search-requires c κs =
+    let loop = c .before .before .before .before .before .before .before .before .loop in
+    let source = c .before .before .before .before .before .before .source in
+    let s = c .before .before .before .before .s in
+    (rw (loop .inv .0 .x-size) (loop .inv .0),
+    ((rw (s .given .1) at (source .ensures)) .0, (rw (s .given .1) at (source .ensures)) .1))
 
 augment-requires : tie.Need-augment-requires Inv-loop μ-loop
 augment-requires c κs = c .before .before .before .before .before .before .search .ensures .reached
 
 loop-less : tie.Need-loop-less Inv-loop μ-loop
-loop-less c = omega (arith, c .before .before .before .before .augment .ensures .less, ap (λ (k : ℕ). surplus k (at (column 1 (c .before .before .before .before .augment .last .1 .1 .0)))) (ap (λ (k : ℕ). k / node-stride) (c .before .before .before .before .augment .ensures .length-same ∙ (c .before .before .before .before .before .before .before .before .before .before .before .search .ensures .length-same ∙ c .before .before .before .before .before .before .before .before .before .before .before .before .before .before .before .before .before .before .before .before .loop .inv .1))), ap (λ (k : ℕ). surplus k (at (column 1 (c .before .before .before .before .before .before .before .before .before .before .before .search .last .1 .1 .0)))) (ap (λ (k : ℕ). k / node-stride) (c .before .before .before .before .before .before .before .before .before .before .before .search .ensures .length-same ∙ c .before .before .before .before .before .before .before .before .before .before .before .before .before .before .before .before .before .before .before .before .loop .inv .1)), ap (λ (l : List ℕ). surplus (length (c .before .before .before .before .before .before .before .before .before .before .before .before .before .before .before .before .before .before .before .before .before .before .before .count-need .last .1 .1 .0) / node-stride) (at l)) (c .before .before .before .before .before .before .before .before .before .before .before .search .ensures .needs-same))
+loop-less c =
+    let count-need = c .before .before .before .before .before .before .before .before .before .before .before .before .before .before .before .before .before .before .before .before .before .before .before .count-need in
+    let loop = c .before .before .before .before .before .before .before .before .before .before .before .before .before .before .before .before .before .before .before .before .loop in
+    let search = c .before .before .before .before .before .before .before .before .before .before .before .search in
+    let augment = c .before .before .before .before .augment in
+    omega
+    (arith, augment .ensures .less,
+    ap (λ (k : ℕ). surplus k (at (column 1 (augment .last .1 .1 .0))))
+    (ap (λ (k : ℕ). k / node-stride) (augment .ensures .length-same ∙ (search .ensures .length-same ∙ loop .inv .1))),
+    ap (λ (k : ℕ). surplus k (at (column 1 (search .last .1 .1 .0))))
+    (ap (λ (k : ℕ). k / node-stride) (search .ensures .length-same ∙ loop .inv .1)),
+    ap (λ (l : List ℕ). surplus (length (count-need .last .1 .1 .0) / node-stride) (at l)) (search .ensures .needs-same))
 
 loop-again : tie.Need-loop-again Inv-loop μ-loop
-loop-again c = (subst (λ (m : ℕ). State (net (c .before .before .before .before .before .before .before .before .before .before .before .before .before .before .before .before .before .before .before .before .before .before .before .before .before .before .before .before .before .before .before .before .before .before .before .before .before .before .before .before .before .args .arcs .now) m) (potentials (c .before .before .before .before .augment .last .1 .1 .0)) (c .before .before .before .before .augment .last .1 .0) (column 1 (c .before .before .before .before .augment .last .1 .1 .0))) (c .before .before .before .before .before .before .before .before .before .before .before .before .before .before .before .before .before .before .before .before .loop .inv .0 .x-size) (c .before .before .before .before .augment .ensures .state), c .before .before .before .before .augment .ensures .length-same ∙ (c .before .before .before .before .before .before .before .before .before .before .before .search .ensures .length-same ∙ c .before .before .before .before .before .before .before .before .before .before .before .before .before .before .before .before .before .before .before .before .loop .inv .1), c .before .before .before .before .before .before .before .before .before .before .before .search .kept .1 .1 .1 .0 ∙ c .before .before .before .before .before .before .before .before .before .before .before .before .before .before .before .before .before .before .before .before .loop .inv .2)
+loop-again c =
+    let start = c .before .before .before .before .before .before .before .before .before .before .before .before .before .before .before .before .before .before .before .before .before .before .before .before .before .before .before .before .before .before .before .before .before .before .before .before .before .before .before .before .before in
+    let loop = c .before .before .before .before .before .before .before .before .before .before .before .before .before .before .before .before .before .before .before .before .loop in
+    let search = c .before .before .before .before .before .before .before .before .before .before .before .search in
+    let augment = c .before .before .before .before .augment in
+    (subst
+    (λ (m : ℕ). State (net (start .args .arcs .now) m) (potentials (augment .last .1 .1 .0)) (augment .last .1 .0)
+    (column 1 (augment .last .1 .1 .0)))
+    (loop .inv .0 .x-size) (augment .ensures .state),
+    augment .ensures .length-same ∙ (search .ensures .length-same ∙ loop .inv .1),
+    search .kept .1 .1 .1 .0 ∙ loop .inv .2)
 
 pub run-spec : {M : Type 1} → statement M
 run-spec =

@@ -16,7 +16,10 @@ same-length : tie.Need-same-length
 same-length c = search needs
 
 returns : tie.Need-returns
-returns c = ((λ v. tested-no (c .before .valid .result) (c .before .valid .ensures) (not-true (c .before .valid .result) (c .if1 .taken)) v), refl, refl, refl)
+returns c =
+    ((λ v. tested-no (c .before .valid .result) (c .before .valid .ensures)
+    (not-true (c .before .valid .result) (c .if1 .taken)) v),
+    refl, refl, refl)
 
 count-of-requires : tie.Need-count-of-requires
 count-of-requires c κs = search needs
@@ -34,7 +37,14 @@ part-whole-end : tie.Need-part-whole-end
 part-whole-end c = search needs
 
 whole-requires : tie.Need-whole-requires
-whole-requires c κs = valid-front (c .before .before .before .before .before .before .before .before .before .before .before .before .args .nodes .now) (node-stride * c .before .before .before .count-of .result) (ap (λ (k : ℕ). node-stride * k) (c .before .before .before .count-of .ensures)) (tested-yes (c .before .before .before .before .before .before .valid .result) (c .before .before .before .before .before .before .valid .ensures) (not-false (c .before .before .before .before .before .before .valid .result) (c .before .before .before .before .before .if1 .left)))
+whole-requires c κs =
+    let start = c .before .before .before .before .before .before .before .before .before .before .before .before in
+    let valid = c .before .before .before .before .before .before .valid in
+    let if1 = c .before .before .before .before .before .if1 in
+    let count-of = c .before .before .before .count-of in
+    valid-front (start .args .nodes .now) (node-stride * count-of .result)
+    (ap (λ (k : ℕ). node-stride * k) (count-of .ensures))
+    (tested-yes (valid .result) (valid .ensures) (not-false (valid .result) (if1 .left)))
 
 same-length-2 : tie.Need-same-length-2
 same-length-2 c = search needs
@@ -46,7 +56,17 @@ same-length-4 : tie.Need-same-length-4
 same-length-4 c = search needs
 
 returns-2 : tie.Need-returns-2
-returns-2 c = solved-back (c .before .before .before .before .before .before .before .before .before .before .before .before .before .before .before .before .before .before .before .args .nodes .now) (node-stride * c .before .before .before .before .before .before .before .before .before .before .count-of .result) (ap (λ (k : ℕ). node-stride * k) (c .before .before .before .before .before .before .before .before .before .before .count-of .ensures)) (c .before .before .before .before .before .before .whole .last .1 .1 .0) (c .before .before .before .before .before .before .whole .kept .1 .1 .0) (c .before .before .before .before .before .before .before .before .before .before .before .before .before .before .before .before .before .before .before .args .flows .now) (c .before .before .before .before .before .before .whole .last .1 .0) (c .before .before .before .before .before .before .before .before .before .before .before .before .before .before .before .before .before .before .before .args .chains .now) (c .before .before .before .before .before .before .whole .last .1 .1 .1 .0) (tested-yes (c .before .before .before .before .before .before .before .before .before .before .before .before .before .valid .result) (c .before .before .before .before .before .before .before .before .before .before .before .before .before .valid .ensures) (not-false (c .before .before .before .before .before .before .before .before .before .before .before .before .before .valid .result) (c .before .before .before .before .before .before .before .before .before .before .before .before .if1 .left))) (c .before .before .before .before .before .before .whole .kept .1 .0) (c .before .before .before .before .before .before .whole .kept .1 .1 .1 .0) (c .before .before .before .before .before .before .whole .ensures .0) (c .before .before .before .before .before .before .whole .ensures .1 .0) (c .before .before .before .before .before .before .whole .ensures .1 .1)
+returns-2 c =
+    let start = c .before .before .before .before .before .before .before .before .before .before .before .before .before .before .before .before .before .before .before in
+    let valid = c .before .before .before .before .before .before .before .before .before .before .before .before .before .valid in
+    let if1 = c .before .before .before .before .before .before .before .before .before .before .before .before .if1 in
+    let count-of = c .before .before .before .before .before .before .before .before .before .before .count-of in
+    let whole = c .before .before .before .before .before .before .whole in
+    solved-back (start .args .nodes .now) (node-stride * count-of .result)
+    (ap (λ (k : ℕ). node-stride * k) (count-of .ensures)) (whole .last .1 .1 .0) (whole .kept .1 .1 .0)
+    (start .args .flows .now) (whole .last .1 .0) (start .args .chains .now) (whole .last .1 .1 .1 .0)
+    (tested-yes (valid .result) (valid .ensures) (not-false (valid .result) (if1 .left))) (whole .kept .1 .0)
+    (whole .kept .1 .1 .1 .0) (whole .ensures .0) (whole .ensures .1 .0) (whole .ensures .1 .1)
 
 pub solve-spec : {M : Type 1} → statement M
 solve-spec =

@@ -17,10 +17,30 @@ run-requires : tie.Need-run-requires
 run-requires c κs = search needs
 
 flood-requires : tie.Need-flood-requires
-flood-requires c κs = (subst (λ (m : ℕ). StateAt (net (c .before .before .before .before .before .before .before .before .before .before .before .before .before .before .before .before .before .args .arcs .now) m) (c .before .before .before .before .before .before .before .before .before .run .last .1 .0) (c .before .before .before .before .before .before .before .before .before .run .last .1 .1 .0)) (sym (c .before .before .before .before .before .before .before .before .before .run .kept .1 .0)) (c .before .before .before .before .before .before .before .before .before .run .ensures .0), subst (λ (m : ℕ). Rooted (net (c .before .before .before .before .before .before .before .before .before .before .before .before .before .before .before .before .before .args .arcs .now) m) (size (c .before .before .before .before .before .before .before .before .before .run .last .1 .1 .0))) (sym (c .before .before .before .before .before .before .before .before .before .run .kept .1 .0)) (subst (λ (n : ℕ). Rooted (net (c .before .before .before .before .before .before .before .before .before .before .before .before .before .before .before .before .before .args .arcs .now) (length (c .before .before .before .before .before .before .before .before .before .before .before .before .before .before .before .before .before .args .flows .now))) n) (sym (ap (λ (k : ℕ). k / node-stride) (c .before .before .before .before .before .before .before .before .before .run .kept .1 .1 .0))) (c .before .before .before .before .before .before .before .before .before .before .before .before .before .before .before .before .before .pre .rooted)))
+flood-requires c κs =
+    let start = c .before .before .before .before .before .before .before .before .before .before .before .before .before .before .before .before .before in
+    let run = c .before .before .before .before .before .before .before .before .before .run in
+    (subst (λ (m : ℕ). StateAt (net (start .args .arcs .now) m) (run .last .1 .0) (run .last .1 .1 .0))
+    (sym (run .kept .1 .0)) (run .ensures .0),
+    subst (λ (m : ℕ). Rooted (net (start .args .arcs .now) m) (size (run .last .1 .1 .0))) (sym (run .kept .1 .0))
+    (subst (λ (n : ℕ). Rooted (net (start .args .arcs .now) (length (start .args .flows .now))) n)
+    (sym (ap (λ (k : ℕ). k / node-stride) (run .kept .1 .1 .0))) (start .pre .rooted)))
 
 finish-requires : tie.Need-finish-requires
-finish-requires c κs = flooded-grounded (c .before .before .before .before .before .before .flood .last .1 .1 .0) (ap (λ (k : ℕ). k / node-stride) (c .before .before .before .before .before .before .flood .kept .1 .1 .0 ∙ c .before .before .before .before .before .before .before .before .before .before .before .before .before .before .before .before .run .kept .1 .1 .0)) (c .before .before .before .before .before .before .before .before .before .before .before .before .before .before .before .before .before .before .before .before .before .before .before .before .pre .wf) (c .before .before .before .before .before .before .before .before .before .before .before .before .before .before .before .before .before .before .before .before .before .before .before .before .pre .rooted) (subst (λ (m : ℕ). Flooded (net (c .before .before .before .before .before .before .before .before .before .before .before .before .before .before .before .before .before .before .before .before .before .before .before .before .args .arcs .now) m) (size (c .before .before .before .before .before .before .before .before .before .before .before .before .before .before .before .before .before .before .before .before .before .before .before .before .args .nodes .now)) (c .before .before .before .before .before .before .before .before .before .before .before .before .before .before .before .before .run .last .1 .0) (c .before .before .before .before .before .before .flood .last .1 .1 .0)) (c .before .before .before .before .before .before .before .before .before .before .before .before .before .before .before .before .run .kept .1 .0) (subst (λ (n : ℕ). Flooded (net (c .before .before .before .before .before .before .before .before .before .before .before .before .before .before .before .before .before .before .before .before .before .before .before .before .args .arcs .now) (length (c .before .before .before .before .before .before .before .before .before .before .before .before .before .before .before .before .run .last .1 .0))) n (c .before .before .before .before .before .before .before .before .before .before .before .before .before .before .before .before .run .last .1 .0) (c .before .before .before .before .before .before .flood .last .1 .1 .0)) (ap (λ (k : ℕ). k / node-stride) (c .before .before .before .before .before .before .before .before .before .before .before .before .before .before .before .before .run .kept .1 .1 .0)) (c .before .before .before .before .before .before .flood .ensures)))
+finish-requires c κs =
+    let start = c .before .before .before .before .before .before .before .before .before .before .before .before .before .before .before .before .before .before .before .before .before .before .before .before in
+    let run = c .before .before .before .before .before .before .before .before .before .before .before .before .before .before .before .before .run in
+    let flood = c .before .before .before .before .before .before .flood in
+    flooded-grounded (flood .last .1 .1 .0)
+    (ap (λ (k : ℕ). k / node-stride) (flood .kept .1 .1 .0 ∙ run .kept .1 .1 .0)) (start .pre .wf) (start .pre .rooted)
+    (subst
+    (λ (m : ℕ). Flooded (net (start .args .arcs .now) m) (size (start .args .nodes .now)) (run .last .1 .0)
+    (flood .last .1 .1 .0))
+    (run .kept .1 .0)
+    (subst
+    (λ (n : ℕ). Flooded (net (start .args .arcs .now) (length (run .last .1 .0))) n (run .last .1 .0)
+    (flood .last .1 .1 .0))
+    (ap (λ (k : ℕ). k / node-stride) (run .kept .1 .1 .0)) (flood .ensures)))
 
 same-length : tie.Need-same-length
 same-length c = search needs
@@ -32,7 +52,24 @@ same-length-3 : tie.Need-same-length-3
 same-length-3 c = search needs
 
 returns : tie.Need-returns
-returns c = (flooded-solution (net (c .before .before .before .before .before .before .before .before .before .before .before .before .before .before .before .before .before .before .before .before .before .before .before .before .before .before .before .before .before .args .arcs .now) (length (c .before .before .before .before .before .before .before .before .before .before .before .before .before .before .before .before .before .before .before .before .before .before .before .before .before .before .before .before .before .args .flows .now))) (size (c .before .before .before .before .before .before .before .before .before .before .before .before .before .before .before .before .before .before .before .before .before .before .before .before .before .before .before .before .before .args .nodes .now)) (c .before .before .before .before .before .before .before .before .before .before .before .before .before .before .before .before .before .before .before .before .before .run .last .1 .0) (c .before .before .before .before .before .before .before .before .before .before .before .flood .last .1 .1 .0) (c .before .before .before .before .finish .last .0) (c .before .before .before .before .before .before .before .before .before .before .before .before .before .before .before .before .before .before .before .before .before .before .before .before .before .before .before .before .before .pre .wf) (ap (λ (k : ℕ). k / node-stride) (c .before .before .before .before .before .before .before .before .before .before .before .flood .kept .1 .1 .0 ∙ c .before .before .before .before .before .before .before .before .before .before .before .before .before .before .before .before .before .before .before .before .before .run .kept .1 .1 .0)) (c .before .before .before .before .before .before .before .before .before .before .before .before .before .before .before .before .before .before .before .before .before .run .ensures .1) (subst (λ (m : ℕ). Flooded (net (c .before .before .before .before .before .before .before .before .before .before .before .before .before .before .before .before .before .before .before .before .before .before .before .before .before .before .before .before .before .args .arcs .now) m) (size (c .before .before .before .before .before .before .before .before .before .before .before .before .before .before .before .before .before .before .before .before .before .before .before .before .before .before .before .before .before .args .nodes .now)) (c .before .before .before .before .before .before .before .before .before .before .before .before .before .before .before .before .before .before .before .before .before .run .last .1 .0) (c .before .before .before .before .before .before .before .before .before .before .before .flood .last .1 .1 .0)) (c .before .before .before .before .before .before .before .before .before .before .before .before .before .before .before .before .before .before .before .before .before .run .kept .1 .0) (subst (λ (n : ℕ). Flooded (net (c .before .before .before .before .before .before .before .before .before .before .before .before .before .before .before .before .before .before .before .before .before .before .before .before .before .before .before .before .before .args .arcs .now) (length (c .before .before .before .before .before .before .before .before .before .before .before .before .before .before .before .before .before .before .before .before .before .run .last .1 .0))) n (c .before .before .before .before .before .before .before .before .before .before .before .before .before .before .before .before .before .before .before .before .before .run .last .1 .0) (c .before .before .before .before .before .before .before .before .before .before .before .flood .last .1 .1 .0)) (ap (λ (k : ℕ). k / node-stride) (c .before .before .before .before .before .before .before .before .before .before .before .before .before .before .before .before .before .before .before .before .before .run .kept .1 .1 .0)) (c .before .before .before .before .before .before .before .before .before .before .before .flood .ensures))) (c .before .before .before .before .finish .ensures .0), (c .before .before .before .before .finish .ensures .1 .0, c .before .before .before .before .finish .ensures .1 .1))
+returns c =
+    let start = c .before .before .before .before .before .before .before .before .before .before .before .before .before .before .before .before .before .before .before .before .before .before .before .before .before .before .before .before .before in
+    let run = c .before .before .before .before .before .before .before .before .before .before .before .before .before .before .before .before .before .before .before .before .before .run in
+    let flood = c .before .before .before .before .before .before .before .before .before .before .before .flood in
+    let finish = c .before .before .before .before .finish in
+    (flooded-solution (net (start .args .arcs .now) (length (start .args .flows .now))) (size (start .args .nodes .now))
+    (run .last .1 .0) (flood .last .1 .1 .0) (finish .last .0) (start .pre .wf)
+    (ap (λ (k : ℕ). k / node-stride) (flood .kept .1 .1 .0 ∙ run .kept .1 .1 .0)) (run .ensures .1)
+    (subst
+    (λ (m : ℕ). Flooded (net (start .args .arcs .now) m) (size (start .args .nodes .now)) (run .last .1 .0)
+    (flood .last .1 .1 .0))
+    (run .kept .1 .0)
+    (subst
+    (λ (n : ℕ). Flooded (net (start .args .arcs .now) (length (run .last .1 .0))) n (run .last .1 .0)
+    (flood .last .1 .1 .0))
+    (ap (λ (k : ℕ). k / node-stride) (run .kept .1 .1 .0)) (flood .ensures)))
+    (finish .ensures .0),
+    (finish .ensures .1 .0, finish .ensures .1 .1))
 
 pub whole-spec : {M : Type 1} → statement M
 whole-spec =

@@ -23,10 +23,18 @@ slice-aggregate-draw-loaded : tie.Need-slice-aggregate-draw-loaded
 slice-aggregate-draw-loaded c = search needs
 
 draw-loaded-requires : tie.Need-draw-loaded-requires
-draw-loaded-requires c κs = loaded-holds (loaded-sheet (c .before .before .before .before .before .before .before .before .before .before .before .args .bytes .now) _ (c .before .before .before .before .counts .given .1) (c .before .before .before .before .before .before .before .load .ensures .0) (c .before .before .before .before .before .before .before .load .ensures .1))
+draw-loaded-requires c κs =
+    let start = c .before .before .before .before .before .before .before .before .before .before .before in
+    let load = c .before .before .before .before .before .before .before .load in
+    let counts = c .before .before .before .before .counts in
+    loaded-holds (loaded-sheet (start .args .bytes .now) _ (counts .given .1) (load .ensures .0) (load .ensures .1))
 
 returns : tie.Need-returns
-returns c = refused-drawn (c .before .before .before .before .before .before .before .before .args .bytes .now) (c .before .before .before .before .before .before .before .before .args .places .now) (c .before .before .before .before .before .before .before .before .args .list .now) (reader-refused (c .before .before .before .before .before .before .before .before .args .bytes .now) _ (omega arith) (c .before .r .given .1) (c .before .before .before .before .load .ensures .0))
+returns c =
+    let start = c .before .before .before .before .before .before .before .before in
+    let load = c .before .before .before .before .load in
+    refused-drawn (start .args .bytes .now) (start .args .places .now) (start .args .list .now)
+    (reader-refused (start .args .bytes .now) _ (omega arith) (c .before .r .given .1) (load .ensures .0))
 
 same-length : tie.Need-same-length
 same-length c = search needs
@@ -35,7 +43,12 @@ same-length-2 : tie.Need-same-length-2
 same-length-2 c = search needs
 
 returns-2 : tie.Need-returns-2
-returns-2 c = loaded-drawn (loaded-sheet (c .before .before .before .before .before .before .before .before .before .before .before .before .before .before .before .args .bytes .now) _ (c .before .before .before .before .before .before .before .before .counts .given .1) (c .before .before .before .before .before .before .before .before .before .before .before .load .ensures .0) (c .before .before .before .before .before .before .before .before .before .before .before .load .ensures .1)) (c .before .before .before .before .before .before .before .before .before .before .before .before .before .before .before .args .places .now) (c .before .before .before .before .before .before .before .before .before .before .before .before .before .before .before .args .list .now) _ _ _ (c .before .before .before .draw-loaded .ensures)
+returns-2 c =
+    let start = c .before .before .before .before .before .before .before .before .before .before .before .before .before .before .before in
+    let load = c .before .before .before .before .before .before .before .before .before .before .before .load in
+    let counts = c .before .before .before .before .before .before .before .before .counts in
+    loaded-drawn (loaded-sheet (start .args .bytes .now) _ (counts .given .1) (load .ensures .0) (load .ensures .1))
+    (start .args .places .now) (start .args .list .now) _ _ _ (c .before .before .before .draw-loaded .ensures)
 
 pub draw-spec : {M : Type 1} → statement M
 draw-spec =

@@ -11,13 +11,17 @@ refused-requires : tie.Need-refused-requires
 refused-requires c κs = search needs
 
 returns : tie.Need-returns
-returns c = few-places-drawn (c .before .before .before .before .before .args .places .now) (c .before .before .before .before .before .args .list .now) (c .refused .ensures) (c .before .if1 .taken)
+returns c =
+    let start = c .before .before .before .before .before in
+    few-places-drawn (start .args .places .now) (start .args .list .now) (c .refused .ensures) (c .before .if1 .taken)
 
 refused-requires-2 : tie.Need-refused-requires-2
 refused-requires-2 c κs = search needs
 
 returns-2 : tie.Need-returns-2
-returns-2 c = few-numbers-drawn (c .before .before .before .before .before .before .before .args .places .now) (c .before .before .before .before .before .before .before .args .list .now) (c .refused2 .ensures) (c .before .if2 .taken)
+returns-2 c =
+    let start = c .before .before .before .before .before .before .before in
+    few-numbers-drawn (start .args .places .now) (start .args .list .now) (c .refused2 .ensures) (c .before .if2 .taken)
 
 add-room : tie.Need-add-room
 add-room c = search needs
@@ -44,7 +48,17 @@ part-nodes-end : tie.Need-part-nodes-end
 part-nodes-end c = omega (arith, nodes-few (c .before .before .before .before .before .before .before .before .pre))
 
 draw-within-requires : tie.Need-draw-within-requires
-draw-within-requires c κs = (c .before .before .before .before .before .before .before .before .before .before .before .pre, record { flows-are = front-length (c .before .before .before .before .before .before .before .before .before .before .before .args .counts .arcs) _ (omega (arith, arcs-few (c .before .before .before .before .before .before .before .before .before .before .before .pre))); nodes-are = front-length _ _ (omega (arith, nodes-few (c .before .before .before .before .before .before .before .before .before .before .before .pre))); places-enough = omega (arith, c .before .before .before .before .before .before .before .if1 .left); list-enough = omega (arith, c .before .before .before .before .before .if2 .left) })
+draw-within-requires c κs =
+    let start = c .before .before .before .before .before .before .before .before .before .before .before in
+    let if1 = c .before .before .before .before .before .before .before .if1 in
+    let if2 = c .before .before .before .before .before .if2 in
+    (start .pre,
+    record {
+      flows-are = front-length (start .args .counts .arcs) _ (omega (arith, arcs-few (start .pre)));
+      nodes-are = front-length _ _ (omega (arith, nodes-few (start .pre)));
+      places-enough = omega (arith, if1 .left);
+      list-enough = omega (arith, if2 .left);
+    })
 
 same-length : tie.Need-same-length
 same-length c = search needs

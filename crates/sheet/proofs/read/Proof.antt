@@ -23,16 +23,35 @@ enum-told : tie.Need-enum-told
 enum-told c = search needs
 
 returns : tie.Need-returns
-returns c = let a = (read-settled (now (c .before .before .before .before .before .before .args .bytes)) _ (c .before .before .before .walk-bytes .ensures) (c .before .before .settle .ensures)) in (a, refused-kept (reading magic sheet (now (c .before .before .before .before .before .before .args .bytes))) (now (c .before .before .before .before .before .before .args .numbers)) a (c .enum-told .given .1))
+returns c =
+    let start = c .before .before .before .before .before .before in
+    let a =
+        (read-settled (now (start .args .bytes)) _ (c .before .before .before .walk-bytes .ensures)
+        (c .before .before .settle .ensures)) in
+    (a,
+    refused-kept (reading magic sheet (now (start .args .bytes))) (now (start .args .numbers)) a
+    (c .enum-told .given .1))
 
 fill-requires : tie.Need-fill-requires
-fill-requires c κs = read-done (now (c .before .before .before .before .before .before .before .before .args .numbers)) (c .before .before .answer .given .1) (now (c .before .before .before .before .before .before .before .before .args .bytes)) (read-settled (now (c .before .before .before .before .before .before .before .before .args .bytes)) _ (c .before .before .before .before .before .walk-bytes .ensures) (c .before .before .before .before .settle .ensures))
+fill-requires c κs =
+    let start = c .before .before .before .before .before .before .before .before in
+    let walk-bytes = c .before .before .before .before .before .walk-bytes in
+    let settle = c .before .before .before .before .settle in
+    read-done (now (start .args .numbers)) (c .before .before .answer .given .1) (now (start .args .bytes))
+    (read-settled (now (start .args .bytes)) _ (walk-bytes .ensures) (settle .ensures))
 
 same-length : tie.Need-same-length
 same-length c = search needs
 
 returns-2 : tie.Need-returns-2
-returns-2 c = (ap outcome (sym (c .before .before .before .before .before .answer .given .1)) ∙ read-settled (now (c .before .before .before .before .before .before .before .before .before .before .before .args .bytes)) _ (c .before .before .before .before .before .before .before .before .walk-bytes .ensures) (c .before .before .before .before .before .before .before .settle .ensures), c .before .before .fill .ensures)
+returns-2 c =
+    let start = c .before .before .before .before .before .before .before .before .before .before .before in
+    let walk-bytes = c .before .before .before .before .before .before .before .before .walk-bytes in
+    let settle = c .before .before .before .before .before .before .before .settle in
+    let answer = c .before .before .before .before .before .answer in
+    (ap outcome (sym (answer .given .1))
+    ∙ read-settled (now (start .args .bytes)) _ (walk-bytes .ensures) (settle .ensures),
+    c .before .before .fill .ensures)
 
 pub read-spec : {M : Type 1} → statement M
 read-spec =

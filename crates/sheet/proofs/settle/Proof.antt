@@ -18,22 +18,35 @@ refused-requires c κs = search needs
 
 returns : tie.Need-returns
 unfolding outcome
-returns c = ap outcome (c .refused .ensures) ∙ settled-follows (c .before .before .before .before .before .before .args .end) (c .before .before .before .before .before .before .args .room) (c .before .before .before .before .last2 .given .1) (omega arith)
+returns c =
+    let start = c .before .before .before .before .before .before in
+    let last2 = c .before .before .before .before .last2 in
+    ap outcome (c .refused .ensures)
+    ∙ settled-follows (start .args .end) (start .args .room) (last2 .given .1) (omega arith)
 
 refused-requires-2 : tie.Need-refused-requires-2
 refused-requires-2 c κs = search needs
 
 returns-2 : tie.Need-returns-2
 unfolding outcome
-returns-2 c = ap outcome (c .refused2 .ensures) ∙ settled-short (c .before .before .before .before .before .before .before .before .args .end) (c .before .before .before .before .before .before .before .before .args .room) (c .before .before .before .before .before .before .last2 .given .1) (omega arith) (omega arith)
+returns-2 c =
+    let start = c .before .before .before .before .before .before .before .before in
+    let last2 = c .before .before .before .before .before .before .last2 in
+    ap outcome (c .refused2 .ensures)
+    ∙ settled-short (start .args .end) (start .args .room) (last2 .given .1) (omega arith) (omega arith)
 
 returns-3 : tie.Need-returns-3
 unfolding outcome
-returns-3 c = settled-refused (c .before .before .before .args .end) (c .before .before .before .args .room) (c .before .last .given .1)
+returns-3 c =
+    let start = c .before .before .before in
+    settled-refused (start .args .end) (start .args .room) (c .before .last .given .1)
 
 returns-4 : tie.Need-returns-4
 unfolding outcome
-returns-4 c = settled-done (c .before .before .before .before .before .before .before .args .end) (c .before .before .before .before .before .before .before .args .room) (c .before .before .before .before .before .last2 .given .1) (omega arith) (omega arith)
+returns-4 c =
+    let start = c .before .before .before .before .before .before .before in
+    let last2 = c .before .before .before .before .before .last2 in
+    settled-done (start .args .end) (start .args .room) (last2 .given .1) (omega arith) (omega arith)
 
 pub settle-spec : {M : Type 1} → statement M
 settle-spec =

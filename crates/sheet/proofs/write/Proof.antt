@@ -22,16 +22,37 @@ enum-told-2 : tie.Need-enum-told-2
 enum-told-2 c = search needs
 
 returns : tie.Need-returns
-returns c = let a = (write-settled (now (c .before .before .before .before .before .before .args .numbers)) _ (c .before .before .before .walk-list .ensures) (c .before .before .settle .ensures)) in (a, refused-kept (writing magic sheet (now (c .before .before .before .before .before .before .args .numbers))) (now (c .before .before .before .before .before .before .args .bytes)) a (c .enum-told2 .given .1))
+returns c =
+    let start = c .before .before .before .before .before .before in
+    let a =
+        (write-settled (now (start .args .numbers)) _ (c .before .before .before .walk-list .ensures)
+        (c .before .before .settle .ensures)) in
+    (a,
+    refused-kept (writing magic sheet (now (start .args .numbers))) (now (start .args .bytes)) a
+    (c .enum-told2 .given .1))
 
 put-sheet-requires : tie.Need-put-sheet-requires
-put-sheet-requires c κs = let w = write-done (now (c .before .before .before .before .before .before .before .args .bytes)) (c .before .enum-told .given .1) (now (c .before .before .before .before .before .before .before .args .numbers)) (write-settled (now (c .before .before .before .before .before .before .before .args .numbers)) _ (c .before .before .before .before .walk-list .ensures) (c .before .before .before .settle .ensures)) in (w .1, w .2)
+put-sheet-requires c κs =
+    let start = c .before .before .before .before .before .before .before in
+    let walk-list = c .before .before .before .before .walk-list in
+    let w =
+        write-done (now (start .args .bytes)) (c .before .enum-told .given .1) (now (start .args .numbers))
+        (write-settled (now (start .args .numbers)) _ (walk-list .ensures) (c .before .before .before .settle .ensures)) in
+    (w .1, w .2)
 
 same-length : tie.Need-same-length
 same-length c = search needs
 
 returns-2 : tie.Need-returns-2
-returns-2 c = let a = (write-settled (now (c .before .before .before .before .before .before .before .before .before .before .args .numbers)) _ (c .before .before .before .before .before .before .before .walk-list .ensures) (c .before .before .before .before .before .before .settle .ensures)) in (a, write-filled (now (c .before .before .before .before .before .before .before .before .before .before .args .bytes)) (c .before .before .before .before .enum-told .given .1) (now (c .before .before .before .before .before .before .before .before .before .before .args .numbers)) a (c .before .before .put-sheet .ensures))
+returns-2 c =
+    let start = c .before .before .before .before .before .before .before .before .before .before in
+    let walk-list = c .before .before .before .before .before .before .before .walk-list in
+    let settle = c .before .before .before .before .before .before .settle in
+    let enum-told = c .before .before .before .before .enum-told in
+    let a = (write-settled (now (start .args .numbers)) _ (walk-list .ensures) (settle .ensures)) in
+    (a,
+    write-filled (now (start .args .bytes)) (enum-told .given .1) (now (start .args .numbers)) a
+    (c .before .before .put-sheet .ensures))
 
 pub write-spec : {M : Type 1} → statement M
 write-spec =

@@ -10,7 +10,10 @@ check-requires : tie.Need-check-requires
 check-requires c κs = search needs
 
 verdict-word-requires : tie.Need-verdict-word-requires
-verdict-word-requires c κs = subst HeldJudgement (sym (c .check .ensures)) (checking-held (c .before .before .before .args .bytes .now) (c .before .before .before .args .places .now) (c .before .before .before .args .list .now))
+verdict-word-requires c κs =
+    let start = c .before .before .before in
+    subst HeldJudgement (sym (c .check .ensures))
+    (checking-held (start .args .bytes .now) (start .args .places .now) (start .args .list .now))
 
 returns : tie.Need-returns
 returns c = c .verdict-word .ensures ∙ ap judgement-word (c .before .check .ensures)

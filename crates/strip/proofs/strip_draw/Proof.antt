@@ -9,7 +9,10 @@ draw-requires : tie.Need-draw-requires
 draw-requires c κs = search needs
 
 drawing-word-requires : tie.Need-drawing-word-requires
-drawing-word-requires c κs = drawing-held (c .before .before .before .before .before .before .before .before .args .bytes .now) _ _ _ _ (result (c .before .before .before .draw .result)) (c .before .before .before .draw .ensures)
+drawing-word-requires c κs =
+    let start = c .before .before .before .before .before .before .before .before in
+    let draw = c .before .before .before .draw in
+    drawing-held (start .args .bytes .now) _ _ _ _ (result (draw .result)) (draw .ensures)
 
 same-length : tie.Need-same-length
 same-length c = search needs
@@ -18,7 +21,9 @@ same-length-2 : tie.Need-same-length-2
 same-length-2 c = search needs
 
 returns : tie.Need-returns
-returns c = (result (c .before .before .before .before .draw .result), c .drawing-word .ensures, c .before .before .before .before .draw .ensures)
+returns c =
+    let draw = c .before .before .before .before .draw in
+    (result (draw .result), c .drawing-word .ensures, draw .ensures)
 
 pub strip-draw-spec : {M : Type 1} → statement M
 strip-draw-spec =

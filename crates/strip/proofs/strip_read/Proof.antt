@@ -10,13 +10,17 @@ read-requires : tie.Need-read-requires
 read-requires c κs = search needs
 
 answer-word-requires : tie.Need-answer-word-requires
-answer-word-requires c κs = subst HeldOutcome (sym (c .before .before .read .ensures .0)) (reading-held (c .before .before .before .before .before .before .args .bytes .now) _)
+answer-word-requires c κs =
+    let start = c .before .before .before .before .before .before in
+    subst HeldOutcome (sym (c .before .before .read .ensures .0)) (reading-held (start .args .bytes .now) _)
 
 same-length : tie.Need-same-length
 same-length c = search needs
 
 returns : tie.Need-returns
-returns c = (c .answer-word .ensures ∙ ap outcome-word (c .before .before .before .read .ensures .0), c .before .before .before .read .ensures .1)
+returns c =
+    let read = c .before .before .before .read in
+    (c .answer-word .ensures ∙ ap outcome-word (read .ensures .0), read .ensures .1)
 
 pub strip-read-spec : {M : Type 1} → statement M
 strip-read-spec = tie.close (tie.spec read-requires answer-word-requires same-length returns)

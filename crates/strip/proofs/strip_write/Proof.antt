@@ -10,13 +10,17 @@ write-requires : tie.Need-write-requires
 write-requires c κs = search needs
 
 answer-word-requires : tie.Need-answer-word-requires
-answer-word-requires c κs = subst HeldOutcome (sym (c .before .before .write .ensures .0)) (writing-held (c .before .before .before .before .before .before .args .numbers .now) _)
+answer-word-requires c κs =
+    let start = c .before .before .before .before .before .before in
+    subst HeldOutcome (sym (c .before .before .write .ensures .0)) (writing-held (start .args .numbers .now) _)
 
 same-length : tie.Need-same-length
 same-length c = search needs
 
 returns : tie.Need-returns
-returns c = (c .answer-word .ensures ∙ ap outcome-word (c .before .before .before .write .ensures .0), c .before .before .before .write .ensures .1)
+returns c =
+    let write = c .before .before .before .write in
+    (c .answer-word .ensures ∙ ap outcome-word (write .ensures .0), write .ensures .1)
 
 pub strip-write-spec : {M : Type 1} → statement M
 strip-write-spec = tie.close (tie.spec write-requires answer-word-requires same-length returns)

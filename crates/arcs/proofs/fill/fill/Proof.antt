@@ -21,16 +21,30 @@ part-put-edges-end : tie.Need-part-put-edges-end
 part-put-edges-end c = search needs
 
 put-edges-requires : tie.Need-put-edges-requires
-put-edges-requires c κs = (edges-good (c .before .before .before .before .before .before .pre .0) (c .before .before .before .before .before .before .pre .1 .0), (edges-there (c .before .before .before .before .before .before .pre .0) (c .before .before .before .before .before .before .pre .1 .0) .0, omega (arith, c .before .before .before .before .before .before .pre .1 .1)))
+put-edges-requires c κs =
+    let start = c .before .before .before .before .before .before in
+    (edges-good (start .pre .0) (start .pre .1 .0),
+    (edges-there (start .pre .0) (start .pre .1 .0) .0, omega (arith, start .pre .1 .1)))
 
 put-layers-requires : tie.Need-put-layers-requires
-put-layers-requires c κs = (layers-good (c .before .before .before .before .before .before .before .before .before .before .pre .0) (c .before .before .before .before .before .before .before .before .before .before .pre .1 .0), ((c .before .before .before .before .before .before .before .before .before .before .pre .0 .head, nodes-few (c .before .before .before .before .before .before .before .before .before .before .pre .0) (c .before .before .before .before .before .before .before .before .before .before .pre .1 .0), c .before .before .before .before .before .before .before .before .before .before .pre .1 .1 .0), omega (arith, layers-room (c .before .before .before .before .before .before .before .before .before .before .pre .0) (c .before .before .before .before .before .before .before .before .before .before .pre .1 .0) (c .before .before .before .before .before .before .before .before .before .before .args .width), edges-end (c .before .before .before .before .before .before .before .before .before .before .pre .0) (c .before .before .before .before .before .before .before .before .before .before .pre .1 .0) (c .before .before .before .put-edges .ensures), c .before .before .before .put-edges .ensures .size, c .before .before .before .before .before .before .before .before .before .before .pre .1 .1)))
+put-layers-requires c κs =
+    let start = c .before .before .before .before .before .before .before .before .before .before in
+    let put-edges = c .before .before .before .put-edges in
+    (layers-good (start .pre .0) (start .pre .1 .0),
+    ((start .pre .0 .head, nodes-few (start .pre .0) (start .pre .1 .0), start .pre .1 .1 .0),
+    omega
+    (arith, layers-room (start .pre .0) (start .pre .1 .0) (start .args .width),
+    edges-end (start .pre .0) (start .pre .1 .0) (put-edges .ensures), put-edges .ensures .size, start .pre .1 .1)))
 
 same-length : tie.Need-same-length
 same-length c = search needs
 
 returns : tie.Need-returns
-returns c = fill-end (c .before .before .before .before .before .before .before .before .before .before .before .before .before .pre .0) (c .before .before .before .before .before .before .before .before .before .before .before .before .before .pre .1 .0) (c .before .before .before .before .before .before .before .before .before .before .before .before .before .args .width) (c .before .before .before .before .before .before .put-edges .ensures) (c .before .before .put-layers .ensures)
+returns c =
+    let start = c .before .before .before .before .before .before .before .before .before .before .before .before .before in
+    let put-edges = c .before .before .before .before .before .before .put-edges in
+    fill-end (start .pre .0) (start .pre .1 .0) (start .args .width) (put-edges .ensures)
+    (c .before .before .put-layers .ensures)
 
 pub fill-spec : {M : Type 1} → statement M
 fill-spec =

@@ -7,7 +7,8 @@ use Rattle.arcs.proofs.layers.put_layer.Statement.{statement}
 use Rattle.arcs.proofs.layers.put_layer.Tie as tie
 
 number-requires : tie.Need-number-requires
-number-requires c κs = count-there (c .before .before .args .at) (c .before .before .args .numbers .now) (c .before .before .pre .0)
+number-requires c κs =
+    count-there (c .before .before .args .at) (c .before .before .args .numbers .now) (c .before .before .pre .0)
 
 upper-bound-requires : tie.Need-upper-bound-requires
 upper-bound-requires c κs = search needs
@@ -16,34 +17,78 @@ put-arc-requires : tie.Need-put-arc-requires
 put-arc-requires c κs = search needs
 
 add-put-pairs : tie.Need-add-put-pairs
-add-put-pairs c = omega (arith, layer-there (c .before .before .before .before .before .before .before .before .args .at) (c .before .before .before .before .before .before .before .before .args .numbers .now) (c .before .before .before .before .before .before .before .before .pre .0) (c .before .before .before .before .before .number .ensures))
+add-put-pairs c =
+    let start = c .before .before .before .before .before .before .before .before in
+    let number = c .before .before .before .before .before .number in
+    omega (arith, layer-there (start .args .at) (start .args .numbers .now) (start .pre .0) (number .ensures))
 
 sub-put-pairs : tie.Need-sub-put-pairs
-sub-put-pairs c = omega (arith, count-few (c .before .before .before .before .before .before .before .before .args .at) (c .before .before .before .before .before .before .before .before .args .numbers .now) (c .before .before .before .before .before .before .before .before .pre .0) (c .before .before .before .before .before .number .ensures))
+sub-put-pairs c =
+    let start = c .before .before .before .before .before .before .before .before in
+    let number = c .before .before .before .before .before .number in
+    omega (arith, count-few (start .args .at) (start .args .numbers .now) (start .pre .0) (number .ensures))
 
 put-pairs-requires : tie.Need-put-pairs-requires
-put-pairs-requires c κs = (omega (arith, layer-there (c .before .before .before .before .before .before .before .before .before .args .at) (c .before .before .before .before .before .before .before .before .before .args .numbers .now) (c .before .before .before .before .before .before .before .before .before .pre .0) (c .before .before .before .before .before .before .number .ensures)), omega (arith, count-few (c .before .before .before .before .before .before .before .before .before .args .at) (c .before .before .before .before .before .before .before .before .before .args .numbers .now) (c .before .before .before .before .before .before .before .before .before .pre .0) (c .before .before .before .before .before .before .number .ensures)), omega (arith, count-few (c .before .before .before .before .before .before .before .before .before .args .at) (c .before .before .before .before .before .before .before .before .before .args .numbers .now) (c .before .before .before .before .before .before .before .before .before .pre .0) (c .before .before .before .before .before .before .number .ensures), count-room (c .before .before .before .before .before .before .before .before .before .args .at) (c .before .before .before .before .before .before .before .before .before .args .numbers .now) (c .before .before .before .before .before .before .before .before .before .pre .0) (c .before .before .before .before .before .before .number .ensures) (c .before .before .before .before .before .before .before .before .before .args .n) _ (c .before .before .before .before .before .before .before .before .before .pre .1 .2), c .before .before .before .put-arc .ensures .count, c .before .before .before .put-arc .ensures .size))
+put-pairs-requires c κs =
+    let start = c .before .before .before .before .before .before .before .before .before in
+    let number = c .before .before .before .before .before .before .number in
+    let put-arc = c .before .before .before .put-arc in
+    (omega (arith, layer-there (start .args .at) (start .args .numbers .now) (start .pre .0) (number .ensures)),
+    omega (arith, count-few (start .args .at) (start .args .numbers .now) (start .pre .0) (number .ensures)),
+    omega
+    (arith, count-few (start .args .at) (start .args .numbers .now) (start .pre .0) (number .ensures),
+    count-room (start .args .at) (start .args .numbers .now) (start .pre .0) (number .ensures) (start .args .n) _
+    (start .pre .1 .2),
+    put-arc .ensures .count, put-arc .ensures .size))
 
 sub-upper-bound : tie.Need-sub-upper-bound
-sub-upper-bound c = omega (arith, count-few (c .before .before .before .before .before .before .before .before .before .before .before .before .before .args .at) (c .before .before .before .before .before .before .before .before .before .before .before .before .before .args .numbers .now) (c .before .before .before .before .before .before .before .before .before .before .before .before .before .pre .0) (c .before .before .before .before .before .before .before .before .before .before .number .ensures))
+sub-upper-bound c =
+    let start = c .before .before .before .before .before .before .before .before .before .before .before .before .before in
+    let number = c .before .before .before .before .before .before .before .before .before .before .number in
+    omega (arith, count-few (start .args .at) (start .args .numbers .now) (start .pre .0) (number .ensures))
 
 add-upper-bound : tie.Need-add-upper-bound
-add-upper-bound c = omega (arith, count-few (c .before .before .before .before .before .before .before .before .before .before .before .before .before .args .at) (c .before .before .before .before .before .before .before .before .before .before .before .before .before .args .numbers .now) (c .before .before .before .before .before .before .before .before .before .before .before .before .before .pre .0) (c .before .before .before .before .before .before .before .before .before .before .number .ensures))
+add-upper-bound c =
+    let start = c .before .before .before .before .before .before .before .before .before .before .before .before .before in
+    let number = c .before .before .before .before .before .before .before .before .before .before .number in
+    omega (arith, count-few (start .args .at) (start .args .numbers .now) (start .pre .0) (number .ensures))
 
 add-upper-bound-2 : tie.Need-add-upper-bound-2
 add-upper-bound-2 c = search needs
 
 upper-bound-requires-2 : tie.Need-upper-bound-requires-2
-upper-bound-requires-2 c κs = omega (arith, count-few (c .before .before .before .before .before .before .before .before .before .before .before .before .before .args .at) (c .before .before .before .before .before .before .before .before .before .before .before .before .before .args .numbers .now) (c .before .before .before .before .before .before .before .before .before .before .before .before .before .pre .0) (c .before .before .before .before .before .before .before .before .before .before .number .ensures))
+upper-bound-requires-2 c κs =
+    let start = c .before .before .before .before .before .before .before .before .before .before .before .before .before in
+    let number = c .before .before .before .before .before .before .before .before .before .before .number in
+    omega (arith, count-few (start .args .at) (start .args .numbers .now) (start .pre .0) (number .ensures))
 
 put-arc-requires-2 : tie.Need-put-arc-requires-2
-put-arc-requires-2 c κs = omega (arith, count-few (c .before .before .before .before .before .before .before .before .before .before .before .before .before .before .args .at) (c .before .before .before .before .before .before .before .before .before .before .before .before .before .before .args .numbers .now) (c .before .before .before .before .before .before .before .before .before .before .before .before .before .before .pre .0) (c .before .before .before .before .before .before .before .before .before .before .before .number .ensures), count-room (c .before .before .before .before .before .before .before .before .before .before .before .before .before .before .args .at) (c .before .before .before .before .before .before .before .before .before .before .before .before .before .before .args .numbers .now) (c .before .before .before .before .before .before .before .before .before .before .before .before .before .before .pre .0) (c .before .before .before .before .before .before .before .before .before .before .before .number .ensures) (c .before .before .before .before .before .before .before .before .before .before .before .before .before .before .args .n) _ (c .before .before .before .before .before .before .before .before .before .before .before .before .before .before .pre .1 .2), c .before .before .before .before .before .before .before .before .put-arc .ensures .count, c .before .before .before .before .before .before .before .before .put-arc .ensures .size, pairs-size (c .before .before .before .before .before .before .before .before .before .before .before .before .before .before .args .at) (c .before .before .before .before .before .before .before .before .before .before .before .before .before .before .args .numbers .now) (c .before .before .before .before .before .before .before .before .before .before .before .before .before .before .pre .0) (c .before .before .before .before .before .before .before .before .before .before .before .number .ensures) (c .before .before .before .before .put-pairs .ensures), c .before .before .before .before .put-pairs .ensures .size)
+put-arc-requires-2 c κs =
+    let start = c .before .before .before .before .before .before .before .before .before .before .before .before .before .before in
+    let number = c .before .before .before .before .before .before .before .before .before .before .before .number in
+    let put-arc = c .before .before .before .before .before .before .before .before .put-arc in
+    let put-pairs = c .before .before .before .before .put-pairs in
+    omega
+    (arith, count-few (start .args .at) (start .args .numbers .now) (start .pre .0) (number .ensures),
+    count-room (start .args .at) (start .args .numbers .now) (start .pre .0) (number .ensures) (start .args .n) _
+    (start .pre .1 .2),
+    put-arc .ensures .count, put-arc .ensures .size,
+    pairs-size (start .args .at) (start .args .numbers .now) (start .pre .0) (number .ensures) (put-pairs .ensures),
+    put-pairs .ensures .size)
 
 same-length : tie.Need-same-length
 same-length c = search needs
 
 returns : tie.Need-returns
-returns c = layer-adds (c .before .before .before .before .before .before .before .before .before .before .before .before .before .before .before .before .before .args .frame .width) (c .before .before .before .before .before .before .before .before .before .before .before .before .before .before .before .before .before .args .at) (c .before .before .before .before .before .before .before .before .before .before .before .before .before .before .before .before .before .args .numbers .now) (c .before .before .before .before .before .before .before .before .before .before .before .before .before .before .number .ensures .is) (c .before .before .before .before .before .before .before .before .before .before .before .before .upper-bound .ensures) (c .before .before .before .upper-bound2 .ensures) (c .before .before .before .before .before .before .before .before .before .before .before .put-arc .ensures) (c .before .before .before .before .before .before .before .put-pairs .ensures) (c .before .before .put-arc2 .ensures)
+returns c =
+    let start = c .before .before .before .before .before .before .before .before .before .before .before .before .before .before .before .before .before in
+    let number = c .before .before .before .before .before .before .before .before .before .before .before .before .before .before .number in
+    let upper-bound = c .before .before .before .before .before .before .before .before .before .before .before .before .upper-bound in
+    let put-arc = c .before .before .before .before .before .before .before .before .before .before .before .put-arc in
+    let put-pairs = c .before .before .before .before .before .before .before .put-pairs in
+    layer-adds (start .args .frame .width) (start .args .at) (start .args .numbers .now) (number .ensures .is)
+    (upper-bound .ensures) (c .before .before .before .upper-bound2 .ensures) (put-arc .ensures) (put-pairs .ensures)
+    (c .before .before .put-arc2 .ensures)
 
 pub put-layer-spec : {M : Type 1} → statement M
 put-layer-spec =

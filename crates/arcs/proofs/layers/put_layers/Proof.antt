@@ -7,7 +7,8 @@ use Rattle.arcs.proofs.layers.put_layers.Statement.{statement}
 use Rattle.arcs.proofs.layers.put_layers.Tie as tie
 
 abbrev Inv-loop : tie.InvT-loop
-Inv-loop numbers layers frame arcs₀ n todo₀ at₀ v₀ m₀ arcs todo at v m = LayersLeft numbers layers (frame .width) (frame .ground) n arcs₀ arcs todo at v m
+Inv-loop numbers layers frame arcs₀ n todo₀ at₀ v₀ m₀ arcs todo at v m =
+    LayersLeft numbers layers (frame .width) (frame .ground) n arcs₀ arcs todo at v m
 
 abbrev μ-loop : tie.MeasureT-loop
 μ-loop numbers layers frame arcs₀ n todo₀ at₀ v₀ m₀ arcs todo at v m = todo
@@ -19,25 +20,48 @@ number-requires : tie.Need-number-requires Inv-loop μ-loop
 number-requires c κs = next-there (c .before .loop .inv .here) (c .loop-test .taken)
 
 put-layer-requires : tie.Need-put-layer-requires Inv-loop μ-loop
-put-layer-requires c κs = (next-good (c .before .before .before .loop .inv .here) (c .before .before .loop-test .taken), (c .before .before .before .before .before .before .pre .1 .0 .1, c .before .before .before .before .before .before .pre .1 .0 .2, omega (arith, layer-room (c .before .before .before .loop .inv) (c .before .before .loop-test .taken), c .before .before .before .loop .inv .left .size, c .before .before .before .before .before .before .pre .1 .1)))
+put-layer-requires c κs =
+    let start = c .before .before .before .before .before .before in
+    let loop = c .before .before .before .loop in
+    let loop-test = c .before .before .loop-test in
+    (next-good (loop .inv .here) (loop-test .taken),
+    (start .pre .1 .0 .1, start .pre .1 .0 .2,
+    omega (arith, layer-room (loop .inv) (loop-test .taken), loop .inv .left .size, start .pre .1 .1)))
 
 sub-todo : tie.Need-sub-todo Inv-loop μ-loop
 sub-todo c = search needs
 
 layer-size-requires : tie.Need-layer-size-requires Inv-loop μ-loop
-layer-size-requires c κs = omega (arith, next-few (c .before .before .before .before .before .before .loop .inv .here) (c .before .before .before .before .before .loop-test .taken) (c .before .before .before .before .number .ensures))
+layer-size-requires c κs =
+    let loop = c .before .before .before .before .before .before .loop in
+    let loop-test = c .before .before .before .before .before .loop-test in
+    let number = c .before .before .before .before .number in
+    omega (arith, next-few (loop .inv .here) (loop-test .taken) (number .ensures))
 
 add-at : tie.Need-add-at Inv-loop μ-loop
-add-at c = omega (arith, next-ends (c .before .before .before .before .before .before .before .loop .inv .here) (c .before .before .before .before .before .before .loop-test .taken) (c .before .before .before .before .before .number .ensures) (c .layer-size .ensures))
+add-at c =
+    let loop = c .before .before .before .before .before .before .before .loop in
+    let loop-test = c .before .before .before .before .before .before .loop-test in
+    let number = c .before .before .before .before .before .number in
+    omega (arith, next-ends (loop .inv .here) (loop-test .taken) (number .ensures) (c .layer-size .ensures))
 
 add-v : tie.Need-add-v Inv-loop μ-loop
-add-v c = omega (arith, next-few (c .before .before .before .before .before .before .before .loop .inv .here) (c .before .before .before .before .before .before .loop-test .taken) (c .before .before .before .before .before .number .ensures))
+add-v c =
+    let loop = c .before .before .before .before .before .before .before .loop in
+    let loop-test = c .before .before .before .before .before .before .loop-test in
+    let number = c .before .before .before .before .before .number in
+    omega (arith, next-few (loop .inv .here) (loop-test .taken) (number .ensures))
 
 loop-less : tie.Need-loop-less Inv-loop μ-loop
 loop-less c = omega arith
 
 loop-again : tie.Need-loop-again Inv-loop μ-loop
-loop-again c = layers-step (c .before .before .before .before .before .before .before .loop .inv) (c .before .before .before .before .before .before .loop-test .taken) (c .before .before .before .before .before .number .ensures) (c .layer-size .ensures) (c .before .before .before .put-layer .ensures)
+loop-again c =
+    let loop = c .before .before .before .before .before .before .before .loop in
+    let loop-test = c .before .before .before .before .before .before .loop-test in
+    let number = c .before .before .before .before .before .number in
+    layers-step (loop .inv) (loop-test .taken) (number .ensures) (c .layer-size .ensures)
+    (c .before .before .before .put-layer .ensures)
 
 same-length : tie.Need-same-length Inv-loop μ-loop
 same-length c = c .before .loop .inv .left .size

@@ -38,7 +38,15 @@ same-length : tie.Need-same-length
 same-length c = search needs
 
 returns : tie.Need-returns
-returns c = pair-adds (c .before .before .before .before .before .before .before .before .before .before .before .before .before .before .args .at) (c .before .before .before .before .before .before .before .before .before .before .before .before .before .before .args .numbers .now) (c .before .before .before .before .before .before .before .before .before .before .before .number .ensures .is) (c .before .before .before .before .before .before .before .before .before .before .number2 .ensures .is) (c .before .before .before .before .before .before .before .before .upper-bound .ensures) (c .before .before .before .maximum .ensures) (c .before .before .before .before .before .before .before .put-arc .ensures) (c .before .before .put-arc2 .ensures)
+returns c =
+    let start = c .before .before .before .before .before .before .before .before .before .before .before .before .before .before in
+    let number = c .before .before .before .before .before .before .before .before .before .before .before .number in
+    let number2 = c .before .before .before .before .before .before .before .before .before .before .number2 in
+    let upper-bound = c .before .before .before .before .before .before .before .before .upper-bound in
+    let put-arc = c .before .before .before .before .before .before .before .put-arc in
+    pair-adds (start .args .at) (start .args .numbers .now) (number .ensures .is) (number2 .ensures .is)
+    (upper-bound .ensures) (c .before .before .before .maximum .ensures) (put-arc .ensures)
+    (c .before .before .put-arc2 .ensures)
 
 pub put-pair-spec : {M : Type 1} → statement M
 put-pair-spec =

@@ -8,7 +8,8 @@ use Rattle.arcs.proofs.layers.put_pairs.Statement.{statement}
 use Rattle.arcs.proofs.layers.put_pairs.Tie as tie
 
 abbrev Inv-loop : tie.InvT-loop
-Inv-loop numbers start count first arcs₀ n todo₀ at₀ v₀ m₀ arcs todo at v m = PairsLeft numbers start count first n arcs₀ arcs todo at v m
+Inv-loop numbers start count first arcs₀ n todo₀ at₀ v₀ m₀ arcs todo at v m =
+    PairsLeft numbers start count first n arcs₀ arcs todo at v m
 
 abbrev μ-loop : tie.MeasureT-loop
 μ-loop numbers start count first arcs₀ n todo₀ at₀ v₀ m₀ arcs todo at v m = todo
@@ -17,7 +18,10 @@ loop-holds : tie.Need-loop-holds Inv-loop μ-loop
 loop-holds c = record { inside = omega arith; room = refl; left = filling-begin _ _ _ }
 
 put-pair-requires : tie.Need-put-pair-requires Inv-loop μ-loop
-put-pair-requires c κs = (omega (arith, c .before .before .loop .inv .inside), omega (arith, c .before .before .loop .inv .inside), omega (arith, c .before .before .loop .inv .room, c .before .before .loop .inv .left .size))
+put-pair-requires c κs =
+    let loop = c .before .before .loop in
+    (omega (arith, loop .inv .inside), omega (arith, loop .inv .inside),
+    omega (arith, loop .inv .room, loop .inv .left .size))
 
 sub-todo : tie.Need-sub-todo Inv-loop μ-loop
 sub-todo c = search needs
@@ -32,7 +36,10 @@ loop-less : tie.Need-loop-less Inv-loop μ-loop
 loop-less c = omega arith
 
 loop-again : tie.Need-loop-again Inv-loop μ-loop
-loop-again c = pairs-step (c .before .before .before .before .before .loop .inv) (c .before .before .before .before .loop-test .taken) (c .before .before .put-pair .ensures)
+loop-again c =
+    let loop = c .before .before .before .before .before .loop in
+    let loop-test = c .before .before .before .before .loop-test in
+    pairs-step (loop .inv) (loop-test .taken) (c .before .before .put-pair .ensures)
 
 same-length : tie.Need-same-length Inv-loop μ-loop
 same-length c = c .before .loop .inv .left .size

@@ -26,7 +26,12 @@ distance-requires : tie.Need-distance-requires
 distance-requires c κs = search needs
 
 returns : tie.Need-returns
-returns c = ends-apart (c .before .before .before .before .before .before .before .args .places .now) (c .before .before .before .before .before .before .before .args .arcs .now) (c .before .before .before .before .before .before .before .args .at) (c .before .before .before .before .node .ensures) (c .before .before .node2 .ensures) (c .before .before .before .place .ensures) (c .before .place2 .ensures) (c .distance .ensures)
+returns c =
+    let start = c .before .before .before .before .before .before .before in
+    let node = c .before .before .before .before .node in
+    ends-apart (start .args .places .now) (start .args .arcs .now) (start .args .at) (node .ensures)
+    (c .before .before .node2 .ensures) (c .before .before .before .place .ensures) (c .before .place2 .ensures)
+    (c .distance .ensures)
 
 pub length-at-spec : {M : Type 1} → statement M
 length-at-spec =

@@ -19,7 +19,12 @@ returns : tie.Need-returns
 returns c = search needs
 
 returns-2 : tie.Need-returns-2
-returns-2 c = record { is = sym (List·getD-eq-default (c .before .before .args .places .now) 0 {n = c .before .before .args .v} (omega arith)); fits = omega arith }
+returns-2 c =
+    record {
+      is = sym
+      (List·getD-eq-default (c .before .before .args .places .now) 0 {n = c .before .before .args .v} (omega arith));
+      fits = omega arith;
+    }
 
 pub place-spec : {M : Type 1} → statement M
 place-spec = tie.close (tie.spec mul-wide shared-slice-read-wide wide-requires returns returns-2)

@@ -33,7 +33,10 @@ loop-less : tie.Need-loop-less Inv-loop μ-loop
 loop-less c = omega arith
 
 loop-again : tie.Need-loop-again Inv-loop μ-loop
-loop-again c = adding-next (c .before .before .before .loop .inv) (c .before .before .loop-test .taken) (c .capped .ensures ∙ ap (λ (x : ℕ). min u32-most (c .before .before .before .loop .sum + x)) (c .before .length-at .ensures .is))
+loop-again c =
+    let loop = c .before .before .before .loop in
+    adding-next (loop .inv) (c .before .before .loop-test .taken)
+    (c .capped .ensures ∙ ap (λ (x : ℕ). min u32-most (loop .sum + x)) (c .before .length-at .ensures .is))
 
 cast-result : tie.Need-cast-result Inv-loop μ-loop
 cast-result c = omega (arith, c .before .loop .inv .small)

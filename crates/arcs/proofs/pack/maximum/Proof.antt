@@ -30,7 +30,9 @@ upper-bound-requires : tie.Need-upper-bound-requires
 upper-bound-requires c κs = search needs
 
 returns-2 : tie.Need-returns-2
-returns-2 c = c .upper-bound .ensures ∙ maximum-some (c .before .before .args .separation) (c .before .before .args .v) (c .before .if1 .left)
+returns-2 c =
+    c .upper-bound .ensures
+    ∙ maximum-some (c .before .before .args .separation) (c .before .before .args .v) (c .before .if1 .left)
 
 pub maximum-spec : {M : Type 1} → statement M
 maximum-spec =

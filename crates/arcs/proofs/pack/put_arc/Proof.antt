@@ -58,7 +58,9 @@ same-length : tie.Need-same-length
 same-length c = search needs
 
 returns : tie.Need-returns
-returns c = arc-adds (c .args .arcs .now) (c .args .at) (c .args .arc .tail) (c .args .arc .head) (c .args .arc .kink) (c .args .arc .low) (c .args .arc .high) (omega arith)
+returns c =
+    arc-adds (c .args .arcs .now) (c .args .at) (c .args .arc .tail) (c .args .arc .head) (c .args .arc .kink)
+    (c .args .arc .low) (c .args .arc .high) (omega arith)
 
 pub put-arc-spec : {M : Type 1} → statement M
 put-arc-spec =

@@ -35,19 +35,32 @@ add-i : tie.Need-add-i Inv-loop μ-loop
 add-i c = search needs
 
 layer-size-requires : tie.Need-layer-size-requires Inv-loop μ-loop
-layer-size-requires c κs = omega (arith, next-few (c .before .before .loop .inv .here) (c .before .loop-test .taken) (c .number .ensures))
+layer-size-requires c κs =
+    omega (arith, next-few (c .before .before .loop .inv .here) (c .before .loop-test .taken) (c .number .ensures))
 
 add-at : tie.Need-add-at Inv-loop μ-loop
-add-at c = omega (arith, next-ends (c .before .before .before .loop .inv .here) (c .before .before .loop-test .taken) (c .before .number .ensures) (c .layer-size .ensures))
+add-at c =
+    omega
+    (arith,
+    next-ends (c .before .before .before .loop .inv .here) (c .before .before .loop-test .taken)
+    (c .before .number .ensures) (c .layer-size .ensures))
 
 add-v : tie.Need-add-v Inv-loop μ-loop
-add-v c = omega (arith, next-few (c .before .before .before .loop .inv .here) (c .before .before .loop-test .taken) (c .before .number .ensures))
+add-v c =
+    omega
+    (arith,
+    next-few (c .before .before .before .loop .inv .here) (c .before .before .loop-test .taken)
+    (c .before .number .ensures))
 
 loop-less : tie.Need-loop-less Inv-loop μ-loop
 loop-less c = omega arith
 
 loop-again : tie.Need-loop-again Inv-loop μ-loop
-loop-again c = firsts-step (c .before .before .before .loop .inv) (c .before .before .loop-test .taken) (c .before .number .ensures) (c .layer-size .ensures) (omega (arith, c .before .before .before .loop .inv .size, c .before .before .before .loop .inv .turns, c .before .before .before .before .before .before .pre .1))
+loop-again c =
+    let start = c .before .before .before .before .before .before in
+    let loop = c .before .before .before .loop in
+    firsts-step (loop .inv) (c .before .before .loop-test .taken) (c .before .number .ensures) (c .layer-size .ensures)
+    (omega (arith, loop .inv .size, loop .inv .turns, start .pre .1))
 
 cast-first-2 : tie.Need-cast-first-2 Inv-loop μ-loop
 cast-first-2 c = omega (arith, c .before .loop .inv .here .few)
@@ -62,7 +75,10 @@ same-length : tie.Need-same-length Inv-loop μ-loop
 same-length c = simp length-set (c .before .loop .inv .size)
 
 returns : tie.Need-returns Inv-loop μ-loop
-returns c = firsts-end (c .before .loop .inv) (omega arith) (omega (arith, c .before .loop .inv .size, c .before .loop .inv .turns, c .before .before .before .before .pre .1))
+returns c =
+    let start = c .before .before .before .before in
+    firsts-end (c .before .loop .inv) (omega arith)
+    (omega (arith, c .before .loop .inv .size, c .before .loop .inv .turns, start .pre .1))
 
 pub first-nodes-spec : {M : Type 1} → statement M
 first-nodes-spec =

@@ -9,25 +9,42 @@ number-requires : tie.Need-number-requires
 number-requires c κs = search needs
 
 first-nodes-requires : tie.Need-first-nodes-requires
-first-nodes-requires c κs = (layers-good (c .before .before .before .before .pre .0) (c .before .number .ensures), (c .before .before .before .before .pre .0 .head, omega (arith, layers-few (c .before .before .before .before .pre .0) (c .before .number .ensures), c .before .before .before .before .pre .1)))
+first-nodes-requires c κs =
+    let start = c .before .before .before .before in
+    (layers-good (start .pre .0) (c .before .number .ensures),
+    (start .pre .0 .head, omega (arith, layers-few (start .pre .0) (c .before .number .ensures), start .pre .1)))
 
 mul-wide : tie.Need-mul-wide
 mul-wide c = search needs
 
 slice-read-wide : tie.Need-slice-read-wide
-slice-read-wide c = omega (arith, layers-few (c .before .before .before .before .before .before .before .before .pre .0) (c .before .before .before .before .before .number .ensures), c .before .before .before .first-nodes .ensures .size, c .before .before .before .before .before .before .before .before .pre .1)
+slice-read-wide c =
+    let start = c .before .before .before .before .before .before .before .before in
+    let number = c .before .before .before .before .before .number in
+    omega
+    (arith, layers-few (start .pre .0) (number .ensures), c .before .before .before .first-nodes .ensures .size,
+    start .pre .1)
 
 wide-requires : tie.Need-wide-requires
 wide-requires c κs = search needs
 
 number-requires-2 : tie.Need-number-requires-2
-number-requires-2 c κs = edges-there (c .before .before .before .before .before .before .before .before .before .pre .0) (c .before .before .before .before .before .before .number .ensures) (c .before .before .before .before .first-nodes .ensures)
+number-requires-2 c κs =
+    let start = c .before .before .before .before .before .before .before .before .before in
+    let number = c .before .before .before .before .before .before .number in
+    let first-nodes = c .before .before .before .before .first-nodes in
+    edges-there (start .pre .0) (number .ensures) (first-nodes .ensures)
 
 same-length : tie.Need-same-length
 same-length c = search needs
 
 returns : tie.Need-returns
-returns c = planned (c .before .before .before .before .before .before .before .before .before .before .pre .0) (c .before .before .before .before .before .before .before .number .ensures) (c .before .before .before .before .before .first-nodes .ensures) (c .before .before .before .before .before .before .before .before .before .before .pre .1) (c .before .wide .ensures .is) (c .number2 .ensures .is)
+returns c =
+    let start = c .before .before .before .before .before .before .before .before .before .before in
+    let number = c .before .before .before .before .before .before .before .number in
+    let first-nodes = c .before .before .before .before .before .first-nodes in
+    planned (start .pre .0) (number .ensures) (first-nodes .ensures) (start .pre .1) (c .before .wide .ensures .is)
+    (c .number2 .ensures .is)
 
 pub plan-spec : {M : Type 1} → statement M
 plan-spec =

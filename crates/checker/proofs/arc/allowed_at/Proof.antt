@@ -19,8 +19,11 @@ at-least-requires : tie.Need-at-least-requires
 at-least-requires c κs = search needs
 
 returns : tie.Need-returns
-returns c = let s = c .before .before .before .before .before in
-    below-low (s .args .arcs .now) (s .args .list .now) (s .args .i) (element w32 _ (c .before .before .before .at-least-arg .given)) (c .before .before .part .ensures) (c .before .at-least .ensures) (c .if1 .taken)
+returns c =
+    let s = c .before .before .before .before .before in
+    below-low (s .args .arcs .now) (s .args .list .now) (s .args .i)
+    (element w32 _ (c .before .before .before .at-least-arg .given)) (c .before .before .part .ensures)
+    (c .before .at-least .ensures) (c .if1 .taken)
 
 mul-at-most : tie.Need-mul-at-most
 mul-at-most c = search needs
@@ -35,8 +38,14 @@ at-most-requires : tie.Need-at-most-requires
 at-most-requires c κs = search needs
 
 returns-2 : tie.Need-returns-2
-returns-2 c = let s = c .before .before .before .before .before .before .before .before in
-    above-low (s .args .arcs .now) (s .args .list .now) (s .args .i) (element w32 _ (c .before .before .before .before .before .before .at-least-arg .given)) (c .before .before .before .before .before .part .ensures) (c .before .before .before .before .at-least .ensures) (c .before .before .before .if1 .left) (element w32 _ (c .before .before .at-most-arg .given)) (c .before .part2 .ensures) (c .at-most .ensures)
+returns-2 c =
+    let at-least-arg = c .before .before .before .before .before .before .at-least-arg in
+    let part = c .before .before .before .before .before .part in
+    let at-least = c .before .before .before .before .at-least in
+    let s = c .before .before .before .before .before .before .before .before in
+    above-low (s .args .arcs .now) (s .args .list .now) (s .args .i) (element w32 _ (at-least-arg .given))
+    (part .ensures) (at-least .ensures) (c .before .before .before .if1 .left)
+    (element w32 _ (c .before .before .at-most-arg .given)) (c .before .part2 .ensures) (c .at-most .ensures)
 
 pub allowed-at-spec : {M : Type 1} → statement M
 allowed-at-spec =

@@ -33,8 +33,15 @@ cast-result : tie.Need-cast-result
 cast-result c = search needs
 
 returns : tie.Need-returns
-returns c = let s = c .before .before .before .before .before .before .before .before .before in
-    legal-right (sides-are (s .args .arcs .now) (s .args .places .now) (s .args .i) (c .before .before .before .before .before .before .part .ensures) (c .before .before .before .before .before .place .ensures) (c .before .before .before .before .part2 .ensures) (c .before .before .before .place2 .ensures) (c .before .before .part3 .ensures)) (c .part4 .ensures) (c .before .if1 .taken)
+returns c =
+    let part = c .before .before .before .before .before .before .part in
+    let place = c .before .before .before .before .before .place in
+    let part2 = c .before .before .before .before .part2 in
+    let s = c .before .before .before .before .before .before .before .before .before in
+    legal-right
+    (sides-are (s .args .arcs .now) (s .args .places .now) (s .args .i) (part .ensures) (place .ensures) (part2 .ensures)
+    (c .before .before .before .place2 .ensures) (c .before .before .part3 .ensures))
+    (c .part4 .ensures) (c .before .if1 .taken)
 
 part-requires-5 : tie.Need-part-requires-5
 part-requires-5 c κs = search needs
@@ -43,12 +50,27 @@ cast-result-2 : tie.Need-cast-result-2
 cast-result-2 c = search needs
 
 returns-2 : tie.Need-returns-2
-returns-2 c = let s = c .before .before .before .before .before .before .before .before .before .before in
-    legal-left (sides-are (s .args .arcs .now) (s .args .places .now) (s .args .i) (c .before .before .before .before .before .before .before .part .ensures) (c .before .before .before .before .before .before .place .ensures) (c .before .before .before .before .before .part2 .ensures) (c .before .before .before .before .place2 .ensures) (c .before .before .before .part3 .ensures)) (c .part5 .ensures) (c .before .if2 .taken)
+returns-2 c =
+    let part = c .before .before .before .before .before .before .before .part in
+    let place = c .before .before .before .before .before .before .place in
+    let part2 = c .before .before .before .before .before .part2 in
+    let place2 = c .before .before .before .before .place2 in
+    let s = c .before .before .before .before .before .before .before .before .before .before in
+    legal-left
+    (sides-are (s .args .arcs .now) (s .args .places .now) (s .args .i) (part .ensures) (place .ensures) (part2 .ensures)
+    (place2 .ensures) (c .before .before .before .part3 .ensures))
+    (c .part5 .ensures) (c .before .if2 .taken)
 
 returns-3 : tie.Need-returns-3
-returns-3 c = let s = c .before .before .before .before .before .before .before .before .before in
-    legal-on (sides-are (s .args .arcs .now) (s .args .places .now) (s .args .i) (c .before .before .before .before .before .before .part .ensures) (c .before .before .before .before .before .place .ensures) (c .before .before .before .before .part2 .ensures) (c .before .before .before .place2 .ensures) (c .before .before .part3 .ensures)) (omega arith)
+returns-3 c =
+    let part = c .before .before .before .before .before .before .part in
+    let place = c .before .before .before .before .before .place in
+    let part2 = c .before .before .before .before .part2 in
+    let s = c .before .before .before .before .before .before .before .before .before in
+    legal-on
+    (sides-are (s .args .arcs .now) (s .args .places .now) (s .args .i) (part .ensures) (place .ensures) (part2 .ensures)
+    (c .before .before .before .place2 .ensures) (c .before .before .part3 .ensures))
+    (omega arith)
 
 pub legal-at-spec : {M : Type 1} → statement M
 legal-at-spec =

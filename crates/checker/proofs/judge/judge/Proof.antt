@@ -28,13 +28,19 @@ part-judge-whole-end-2 : tie.Need-part-judge-whole-end-2
 part-judge-whole-end-2 c = search needs
 
 judge-whole-requires : tie.Need-judge-whole-requires
-judge-whole-requires c κs = let s = c .before .before .before .before in
-    (s .pre .0, (omega (arith, front-length (s .args .counts .arcs) (s .args .list .now) (s .pre .1 .0)), front-length (s .args .counts .nodes) (s .args .places .now) (s .pre .1 .1)))
+judge-whole-requires c κs =
+    let s = c .before .before .before .before in
+    (s .pre .0,
+    (omega (arith, front-length (s .args .counts .arcs) (s .args .list .now) (s .pre .1 .0)),
+    front-length (s .args .counts .nodes) (s .args .places .now) (s .pre .1 .1)))
 
 returns : tie.Need-returns
-returns c = let s = c .before .before .before .before .before in
+returns c =
+    let s = c .before .before .before .before .before in
     c .judge-whole .ensures
-    ∙ ap₂ (λ (m k : ℕ). table-decision (s .args .arcs .now) (s .args .counts) (take m (s .args .places .now)) (take k (s .args .list .now)))
+    ∙ ap₂
+    (λ (m k : ℕ). table-decision (s .args .arcs .now) (s .args .counts) (take m (s .args .places .now))
+    (take k (s .args .list .now)))
     (less-none (s .args .counts .nodes)) (less-none (s .args .counts .arcs))
 
 pub judge-spec : {M : Type 1} → statement M

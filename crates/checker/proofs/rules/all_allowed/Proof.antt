@@ -20,7 +20,8 @@ allowed-at-requires : tie.Need-allowed-at-requires Inv-loop μ-loop
 allowed-at-requires c κs = (c .before .before .before .pre .0 .arcs (c .before .loop .i) (omega arith), omega arith)
 
 returns : tie.Need-returns Inv-loop μ-loop
-returns c = passing-fails (c .before .before .before .loop .inv) (omega arith) (c .before .allowed-at .ensures) (c .if1 .taken)
+returns c =
+    passing-fails (c .before .before .before .loop .inv) (omega arith) (c .before .allowed-at .ensures) (c .if1 .taken)
 
 add-i : tie.Need-add-i Inv-loop μ-loop
 add-i c = omega arith
@@ -29,7 +30,8 @@ loop-less : tie.Need-loop-less Inv-loop μ-loop
 loop-less c = omega arith
 
 loop-again : tie.Need-loop-again Inv-loop μ-loop
-loop-again c = passing-next (c .before .before .before .loop .inv) (omega arith) (c .before .allowed-at .ensures) (c .if1 .left)
+loop-again c =
+    passing-next (c .before .before .before .loop .inv) (omega arith) (c .before .allowed-at .ensures) (c .if1 .left)
 
 returns-2 : tie.Need-returns-2 Inv-loop μ-loop
 returns-2 c = passing-end (c .before .loop .inv) (omega arith)

@@ -20,7 +20,9 @@ zeros-requires : tie.Need-zeros-requires
 zeros-requires c κs = search needs
 
 returns : tie.Need-returns
-returns c = c .zeros .ensures ∙ balanced-is (c .before .before .before .before .before .before .args .nodes) (c .before .before .before .balances .ensures) (omega arith)
+returns c =
+    let start = c .before .before .before .before .before .before in
+    c .zeros .ensures ∙ balanced-is (start .args .nodes) (c .before .before .before .balances .ensures) (omega arith)
 
 pub all-balanced-spec : {M : Type 1} → statement M
 all-balanced-spec =

@@ -16,7 +16,11 @@ loop-holds : tie.Need-loop-holds Inv-loop μ-loop
 loop-holds c = count-begin _ _ _ _ (c .before .pre .1 .1)
 
 bring-requires : tie.Need-bring-requires Inv-loop μ-loop
-bring-requires c κs = (c .before .before .before .before .pre .0 .arcs (c .before .before .loop .i) (omega arith), (omega arith, λ u l. omega (arith, c .before .before .loop .inv .small u l, c .before .before .loop .inv .turns, c .before .before .before .before .pre .0 .few)))
+bring-requires c κs =
+    let start = c .before .before .before .before in
+    let loop = c .before .before .loop in
+    (start .pre .0 .arcs (loop .i) (omega arith),
+    (omega arith, λ u l. omega (arith, loop .inv .small u l, loop .inv .turns, start .pre .0 .few)))
 
 add-i : tie.Need-add-i Inv-loop μ-loop
 add-i c = omega (arith, c .before .before .before .before .loop .inv .turns)
@@ -31,7 +35,9 @@ same-length : tie.Need-same-length Inv-loop μ-loop
 same-length c = c .before .loop .inv .balanced .size
 
 returns : tie.Need-returns Inv-loop μ-loop
-returns c = let e : c .before .loop .i ≡ c .before .before .before .args .n = omega (arith, c .before .loop .inv .turns) in rw e at (c .before .loop .inv .balanced)
+returns c =
+    let e : c .before .loop .i ≡ c .before .before .before .args .n = omega (arith, c .before .loop .inv .turns) in
+    rw e at (c .before .loop .inv .balanced)
 
 pub balances-spec : {M : Type 1} → statement M
 balances-spec =

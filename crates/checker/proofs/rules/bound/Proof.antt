@@ -18,7 +18,9 @@ term-requires : tie.Need-term-requires Inv-loop μ-loop
 term-requires c κs = (c .before .before .before .pre .0 .arcs (c .before .loop .i) (omega arith), omega arith)
 
 less-requires : tie.Need-less-requires Inv-loop μ-loop
-less-requires c κs = bounding-fits (c .before .before .loop .inv) (c .before .before .before .before .pre .0 .few) (c .term .ensures .0) (c .term .ensures .1)
+less-requires c κs =
+    let start = c .before .before .before .before in
+    bounding-fits (c .before .before .loop .inv) (start .pre .0 .few) (c .term .ensures .0) (c .term .ensures .1)
 
 add-i : tie.Need-add-i Inv-loop μ-loop
 add-i c = omega arith
@@ -27,7 +29,10 @@ loop-less : tie.Need-loop-less Inv-loop μ-loop
 loop-less c = omega arith
 
 loop-again : tie.Need-loop-again Inv-loop μ-loop
-loop-again c = bounding-next (c .before .before .before .loop .inv) (c .before .before .before .before .before .pre .0 .few) (c .before .term .ensures .0) (c .before .term .ensures .1) (omega arith) (c .less .ensures)
+loop-again c =
+    let start = c .before .before .before .before .before in
+    bounding-next (c .before .before .before .loop .inv) (start .pre .0 .few) (c .before .term .ensures .0)
+    (c .before .term .ensures .1) (omega arith) (c .less .ensures)
 
 returns : tie.Need-returns Inv-loop μ-loop
 returns c = bounding-end (c .before .loop .inv) (c .before .before .before .pre .0 .few) (omega arith)

@@ -24,7 +24,10 @@ widen-requires : tie.Need-widen-requires
 widen-requires c κs = search needs
 
 shift-requires : tie.Need-shift-requires
-shift-requires c κs = ((λ u l. omega (arith, c .before .before .before .before .before .pre .1 .1 u l)), omega (arith, ap natAbs (read (c .widen .result) (omega (arith, c .widen .ensures .1))), c .widen .ensures .1))
+shift-requires c κs =
+    let start = c .before .before .before .before .before in
+    ((λ u l. omega (arith, start .pre .1 .1 u l)),
+    omega (arith, ap natAbs (read (c .widen .result) (omega (arith, c .widen .ensures .1))), c .widen .ensures .1))
 
 part-requires-2 : tie.Need-part-requires-2
 part-requires-2 c κs = search needs
@@ -39,15 +42,34 @@ opposite-requires : tie.Need-opposite-requires
 opposite-requires c κs = search needs
 
 shift-requires-2 : tie.Need-shift-requires-2
-shift-requires-2 c κs = ((λ u l. omega (arith, shifted-within balance-size amount-size (c .before .before .before .before .before .before .before .before .before .before .before .pre .1 .1) (omega (arith, ap natAbs (read (c .before .before .before .before .before .before .widen .result) (omega (arith, c .before .before .before .before .before .before .widen .ensures .1))), c .before .before .before .before .before .before .widen .ensures .1)) (c .before .before .before .before .before .shift .ensures) u l)), omega (arith, ap natAbs (read (c .opposite .result) (omega (arith, c .opposite .ensures .1))), c .opposite .ensures .1))
+shift-requires-2 c κs =
+    let start = c .before .before .before .before .before .before .before .before .before .before .before in
+    let widen = c .before .before .before .before .before .before .widen in
+    let shift = c .before .before .before .before .before .shift in
+    ((λ u l. omega
+    (arith,
+    shifted-within balance-size amount-size (start .pre .1 .1)
+    (omega (arith, ap natAbs (read (widen .result) (omega (arith, widen .ensures .1))), widen .ensures .1))
+    (shift .ensures) u l)),
+    omega
+    (arith, ap natAbs (read (c .opposite .result) (omega (arith, c .opposite .ensures .1))), c .opposite .ensures .1))
 
 same-length : tie.Need-same-length
 same-length c = search needs
 
 returns : tie.Need-returns
-returns c = let s = c .before .before .before .before .before .before .before .before .before .before .before .before .before in
+returns c =
+    let part = c .before .before .before .before .before .before .before .before .before .before .part in
+    let widen-arg = c .before .before .before .before .before .before .before .before .before .widen-arg in
+    let widen = c .before .before .before .before .before .before .before .before .widen in
+    let shift = c .before .before .before .before .before .before .before .shift in
+    let part2 = c .before .before .before .before .part2 in
+    let s = c .before .before .before .before .before .before .before .before .before .before .before .before .before in
     let y : ℤ = getD (s .args .list .now) (s .args .i) (pos 0) in
-    brought (flow-at (s .args .arcs .now) (s .args .list .now) (s .args .i)) (c .before .before .before .before .before .before .before .before .before .before .part .ensures .is) (c .before .before .before .before .part2 .ensures .is) (amount-passed y (c .before .before .before .before .before .before .before .before .before .widen-arg .given) (c .before .before .before .before .before .before .before .before .widen .ensures .0)) (amount-negated y (c .before .before .before .opposite-arg .given) (c .before .before .opposite .ensures .0)) (amount-small y (c .before .before .before .before .before .before .before .before .before .widen-arg .given)) (c .before .before .before .before .before .before .before .shift .ensures) (c .before .shift2 .ensures)
+    brought (flow-at (s .args .arcs .now) (s .args .list .now) (s .args .i)) (part .ensures .is) (part2 .ensures .is)
+    (amount-passed y (widen-arg .given) (widen .ensures .0))
+    (amount-negated y (c .before .before .before .opposite-arg .given) (c .before .before .opposite .ensures .0))
+    (amount-small y (widen-arg .given)) (shift .ensures) (c .before .shift2 .ensures)
 
 pub bring-spec : {M : Type 1} → statement M
 bring-spec =

@@ -31,7 +31,15 @@ same-requires : tie.Need-same-requires Inv-loop μ-loop
 same-requires c κs = search needs
 
 returns : tie.Need-returns Inv-loop μ-loop
-returns c = passing-fails (c .before .before .before .before .loop .inv) (omega arith) (c .before .same .ensures ∙ ap (λ (z : ℤ). eqZ z (pos 0)) (element w64 (getD (c .before .before .before .before .before .args .balance .now) (c .before .before .before .before .loop .i) (pos 0)) (c .before .before .same-arg .given))) (c .if1 .taken) ∙ all-below _ _
+returns c =
+    let start = c .before .before .before .before .before in
+    let loop = c .before .before .before .before .loop in
+    passing-fails (loop .inv) (omega arith)
+    (c .before .same .ensures
+    ∙ ap (λ (z : ℤ). eqZ z (pos 0))
+    (element w64 (getD (start .args .balance .now) (loop .i) (pos 0)) (c .before .before .same-arg .given)))
+    (c .if1 .taken)
+    ∙ all-below _ _
 
 add-i : tie.Need-add-i Inv-loop μ-loop
 add-i c = omega arith
@@ -40,7 +48,14 @@ loop-less : tie.Need-loop-less Inv-loop μ-loop
 loop-less c = omega arith
 
 loop-again : tie.Need-loop-again Inv-loop μ-loop
-loop-again c = passing-next (c .before .before .before .before .loop .inv) (omega arith) (c .before .same .ensures ∙ ap (λ (z : ℤ). eqZ z (pos 0)) (element w64 (getD (c .before .before .before .before .before .args .balance .now) (c .before .before .before .before .loop .i) (pos 0)) (c .before .before .same-arg .given))) (c .if1 .left)
+loop-again c =
+    let start = c .before .before .before .before .before in
+    let loop = c .before .before .before .before .loop in
+    passing-next (loop .inv) (omega arith)
+    (c .before .same .ensures
+    ∙ ap (λ (z : ℤ). eqZ z (pos 0))
+    (element w64 (getD (start .args .balance .now) (loop .i) (pos 0)) (c .before .before .same-arg .given)))
+    (c .if1 .left)
 
 returns-2 : tie.Need-returns-2 Inv-loop μ-loop
 returns-2 c = passing-end (c .before .loop .inv) (omega arith) ∙ all-below _ _

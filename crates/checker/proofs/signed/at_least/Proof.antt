@@ -30,7 +30,13 @@ not-above-requires : tie.Need-not-above-requires
 not-above-requires c κs = search needs
 
 returns-2 : tie.Need-returns-2
-returns-2 c = c .not-above .ensures ∙ ap₂ leZ (pass (c .before .before .lowered .ensures .0) (omega (arith, difference-size (c .before .before .before .before .args .low) flow-zero))) (pass (c .before .widen .ensures .0 ∙ toZ-ofZ (c .before .before .before .before .fits .amount)) (omega (arith, fits-size (c .before .before .before .before .fits .amount)))) ∙ low-set (c .before .before .before .before .args .low) (c .before .before .before .before .args .amount) (c .before .before .before .if1 .left)
+returns-2 c =
+    let start = c .before .before .before .before in
+    c .not-above .ensures
+    ∙ ap₂ leZ
+    (pass (c .before .before .lowered .ensures .0) (omega (arith, difference-size (start .args .low) flow-zero)))
+    (pass (c .before .widen .ensures .0 ∙ toZ-ofZ (start .fits .amount)) (omega (arith, fits-size (start .fits .amount))))
+    ∙ low-set (start .args .low) (start .args .amount) (c .before .before .before .if1 .left)
 
 pub at-least-spec : {M : Type 1} → statement M
 at-least-spec =

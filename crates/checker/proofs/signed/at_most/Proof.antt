@@ -30,7 +30,14 @@ not-above-requires : tie.Need-not-above-requires
 not-above-requires c κs = search needs
 
 returns-2 : tie.Need-returns-2
-returns-2 c = c .not-above .ensures ∙ ap₂ leZ (pass (c .before .before .widen .ensures .0 ∙ toZ-ofZ (c .before .before .before .before .fits .amount)) (omega (arith, fits-size (c .before .before .before .before .fits .amount)))) (pass (c .before .lowered .ensures .0) (omega (arith, difference-size (c .before .before .before .before .args .high) flow-zero))) ∙ high-set (c .before .before .before .before .args .high) (c .before .before .before .before .args .amount) (c .before .before .before .if1 .left)
+returns-2 c =
+    let start = c .before .before .before .before in
+    c .not-above .ensures
+    ∙ ap₂ leZ
+    (pass (c .before .before .widen .ensures .0 ∙ toZ-ofZ (start .fits .amount))
+    (omega (arith, fits-size (start .fits .amount))))
+    (pass (c .before .lowered .ensures .0) (omega (arith, difference-size (start .args .high) flow-zero)))
+    ∙ high-set (start .args .high) (start .args .amount) (c .before .before .before .if1 .left)
 
 pub at-most-spec : {M : Type 1} → statement M
 at-most-spec =

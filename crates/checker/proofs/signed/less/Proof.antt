@@ -9,7 +9,9 @@ use Rattle.checker.proofs.signed.less.Statement.{statement}
 use Rattle.checker.proofs.signed.less.Tie as tie
 
 sub-result : tie.Need-sub-result
-sub-result c = subst₂ (λ (a b : ℤ). SFits w64 (a -ℤ b)) (sym (toZ-ofZ (c .fits .a))) (sym (toZ-ofZ (c .fits .b))) (difference-fits (c .args .a) (c .args .b) (c .pre))
+sub-result c =
+    subst₂ (λ (a b : ℤ). SFits w64 (a -ℤ b)) (sym (toZ-ofZ (c .fits .a))) (sym (toZ-ofZ (c .fits .b)))
+    (difference-fits (c .args .a) (c .args .b) (c .pre))
 
 returns : tie.Need-returns
 returns c = toZ-ofZ (sub-result c) ∙ ap₂ _-ℤ_ (toZ-ofZ (c .fits .a)) (toZ-ofZ (c .fits .b))

@@ -14,10 +14,20 @@ signed-requires-2 : tie.Need-signed-requires-2
 signed-requires-2 c κs = search needs
 
 less-requires : tie.Need-less-requires
-less-requires c κs = omega (arith, ap natAbs (pass (c .before .signed .ensures) (omega arith)), ap natAbs (pass (c .signed2 .ensures) (omega arith)))
+less-requires c κs =
+    omega
+    (arith, ap natAbs (pass (c .before .signed .ensures) (omega arith)),
+    ap natAbs (pass (c .signed2 .ensures) (omega arith)))
 
 returns : tie.Need-returns
-returns c = let e : c .less .result ≡ pos (c .before .before .before .args .n) -ℤ pos (c .before .before .before .args .added) = c .less .ensures ∙ ap₂ _-ℤ_ (pass (c .before .before .signed .ensures) (omega arith)) (pass (c .before .signed2 .ensures) (omega arith)) in let f = pass e (omega (arith, difference-size (c .before .before .before .args .n) (c .before .before .before .args .added))) in (f, omega (arith, ap natAbs f, difference-size (c .before .before .before .args .n) (c .before .before .before .args .added)))
+returns c =
+    let start = c .before .before .before in
+    let e : c .less .result ≡ pos (start .args .n) -ℤ pos (start .args .added) =
+        c .less .ensures
+        ∙ ap₂ _-ℤ_ (pass (c .before .before .signed .ensures) (omega arith))
+        (pass (c .before .signed2 .ensures) (omega arith)) in
+    let f = pass e (omega (arith, difference-size (start .args .n) (start .args .added))) in
+    (f, omega (arith, ap natAbs f, difference-size (start .args .n) (start .args .added)))
 
 pub lowered-spec : {M : Type 1} → statement M
 lowered-spec = tie.close (tie.spec signed-requires signed-requires-2 less-requires returns)

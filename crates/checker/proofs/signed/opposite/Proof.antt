@@ -14,10 +14,16 @@ cast-result : tie.Need-cast-result
 cast-result c = widened-fits (c .fits .amount)
 
 sub-result : tie.Need-sub-result
-sub-result c = subst (λ (a : ℤ). SFits w64 (pos 0 -ℤ a)) (sym (widened (c .fits .amount))) (negated-fits (c .fits .amount))
+sub-result c =
+    subst (λ (a : ℤ). SFits w64 (pos 0 -ℤ a)) (sym (widened (c .fits .amount))) (negated-fits (c .fits .amount))
 
 returns : tie.Need-returns
-returns c = let e = toZ-ofZ (sub-result c) ∙ ap (λ (a : ℤ). pos 0 -ℤ a) (widened (c .fits .amount)) ∙ +ℤ-idl (negℤ (c .args .amount)) in (e, omega (arith, ap natAbs e, size-neg (c .args .amount), fits-size (c .fits .amount)))
+returns c =
+    let e =
+        toZ-ofZ (sub-result c)
+        ∙ ap (λ (a : ℤ). pos 0 -ℤ a) (widened (c .fits .amount))
+        ∙ +ℤ-idl (negℤ (c .args .amount)) in
+    (e, omega (arith, ap natAbs e, size-neg (c .args .amount), fits-size (c .fits .amount)))
 
 pub opposite-spec : {M : Type 1} → statement M
 opposite-spec = tie.close (tie.spec cast-result sub-result returns)

@@ -9,7 +9,9 @@ use Rattle.checker.proofs.signed.plus.Statement.{statement}
 use Rattle.checker.proofs.signed.plus.Tie as tie
 
 add-result : tie.Need-add-result
-add-result c = subst₂ (λ (a b : ℤ). SFits w64 (a +ℤ b)) (sym (toZ-ofZ (c .fits .a))) (sym (toZ-ofZ (c .fits .b))) (sum-fits (c .args .a) (c .args .b) (c .pre))
+add-result c =
+    subst₂ (λ (a b : ℤ). SFits w64 (a +ℤ b)) (sym (toZ-ofZ (c .fits .a))) (sym (toZ-ofZ (c .fits .b)))
+    (sum-fits (c .args .a) (c .args .b) (c .pre))
 
 returns : tie.Need-returns
 returns c = toZ-ofZ (add-result c) ∙ ap₂ _+ℤ_ (toZ-ofZ (c .fits .a)) (toZ-ofZ (c .fits .b))

@@ -14,10 +14,14 @@ cast-result : tie.Need-cast-result
 cast-result c = widened-fits (c .fits .amount)
 
 mul-result : tie.Need-mul-result
-mul-result c = subst₂ (λ (a b : ℤ). SFits w64 (a *ℤ b)) (sym (widened (c .fits .amount))) (sym (toZ-ofZ (c .fits .kink))) (size-fits (omega (arith, term-small (c .args .kink) (c .fits .amount) (c .pre))))
+mul-result c =
+    subst₂ (λ (a b : ℤ). SFits w64 (a *ℤ b)) (sym (widened (c .fits .amount))) (sym (toZ-ofZ (c .fits .kink)))
+    (size-fits (omega (arith, term-small (c .args .kink) (c .fits .amount) (c .pre))))
 
 returns : tie.Need-returns
-returns c = let e = toZ-ofZ (mul-result c) ∙ ap₂ _*ℤ_ (widened (c .fits .amount)) (toZ-ofZ (c .fits .kink)) in (e, omega (arith, ap natAbs e, term-small (c .args .kink) (c .fits .amount) (c .pre)))
+returns c =
+    let e = toZ-ofZ (mul-result c) ∙ ap₂ _*ℤ_ (widened (c .fits .amount)) (toZ-ofZ (c .fits .kink)) in
+    (e, omega (arith, ap natAbs e, term-small (c .args .kink) (c .fits .amount) (c .pre)))
 
 pub product-spec : {M : Type 1} → statement M
 product-spec = tie.close (tie.spec cast-result mul-result returns)

@@ -11,7 +11,8 @@ cast-result : tie.Need-cast-result
 cast-result c = widened-fits (c .fits .amount)
 
 returns : tie.Need-returns
-returns c = (widened (c .fits .amount), omega (arith, ap natAbs (widened (c .fits .amount)), fits-size (c .fits .amount)))
+returns c =
+    (widened (c .fits .amount), omega (arith, ap natAbs (widened (c .fits .amount)), fits-size (c .fits .amount)))
 
 pub widen-spec : {M : Type 1} → statement M
 widen-spec = tie.close (tie.spec cast-result returns)

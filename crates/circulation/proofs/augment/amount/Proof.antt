@@ -17,7 +17,15 @@ least-requires : tie.Need-least-requires
 least-requires c κs = search needs
 
 returns : tie.Need-returns
-returns c = record { some = c .least .ensures .2 (omega (arith, c .before .before .get .ensures, c .before .before .before .before .pre .2)) (omega (arith, c .before .get2 .ensures, c .before .before .before .before .pre .3)); room-fits = omega (arith, c .least .ensures .1, c .before .get2 .ensures); spare-fits = omega (arith, c .least .ensures .0, c .before .before .get .ensures, c .before .before .before .before .pre .2) }
+returns c =
+    let start = c .before .before .before .before in
+    let get = c .before .before .get in
+    record {
+      some = c .least .ensures .2 (omega (arith, get .ensures, start .pre .2))
+      (omega (arith, c .before .get2 .ensures, start .pre .3));
+      room-fits = omega (arith, c .least .ensures .1, c .before .get2 .ensures);
+      spare-fits = omega (arith, c .least .ensures .0, get .ensures, start .pre .2);
+    }
 
 pub amount-spec : {M : Type 1} → statement M
 amount-spec = tie.close (tie.spec get-requires sub-least get-requires-2 least-requires returns)

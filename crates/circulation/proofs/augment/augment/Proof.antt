@@ -8,13 +8,26 @@ use Rattle.circulation.proofs.augment.augment.Statement.{statement}
 use Rattle.circulation.proofs.augment.augment.Tie as tie
 
 amount-requires : tie.Need-amount-requires
-amount-requires c κs = (omega (arith, c .before .before .before .before .pre .state .wf .nodes, column-length 0 (c .before .before .before .before .args .nodes .now)), omega (arith, c .before .before .before .before .pre .t-in, column-length 0 (c .before .before .before .before .args .nodes .now)), c .before .before .before .before .pre .deficit, end-room (c .before .before .before .before .pre))
+amount-requires c κs =
+    let start = c .before .before .before .before in
+    (omega (arith, start .pre .state .wf .nodes, column-length 0 (start .args .nodes .now)),
+    omega (arith, start .pre .t-in, column-length 0 (start .args .nodes .now)), start .pre .deficit,
+    end-room (start .pre))
 
 walk-requires : tie.Need-walk-requires
-walk-requires c κs = (c .before .before .before .before .before .before .before .pre, c .before .before .amount .ensures)
+walk-requires c κs =
+    let start = c .before .before .before .before .before .before .before in
+    (start .pre, c .before .before .amount .ensures)
 
 charge-requires : tie.Need-charge-requires
-charge-requires c κs = ((omega (arith, c .before .before .before .before .before .before .before .before .before .before .before .pre .tree .s-in, column-length 0 (c .before .before .before .before .before .before .before .before .before .before .before .args .nodes .now)), omega (arith, c .before .before .before .before .before .before .before .before .before .before .before .pre .t-in, column-length 0 (c .before .before .before .before .before .before .before .before .before .before .before .args .nodes .now)), omega (arith, c .before .before .before .before .before .before .before .before .before .before .before .pre .state .wf .nodes, column-length 0 (c .before .before .before .before .before .before .before .before .before .before .before .args .nodes .now))), (omega (arith, c .before .before .before .before .before .before .amount .ensures .spare-fits), omega (arith, amount-most (c .before .before .before .before .before .before .before .before .before .before .before .pre) (c .before .before .before .before .before .before .amount .result) (c .before .before .before .before .before .before .amount .ensures) .0)))
+charge-requires c κs =
+    let start = c .before .before .before .before .before .before .before .before .before .before .before in
+    let amount = c .before .before .before .before .before .before .amount in
+    ((omega (arith, start .pre .tree .s-in, column-length 0 (start .args .nodes .now)),
+    omega (arith, start .pre .t-in, column-length 0 (start .args .nodes .now)),
+    omega (arith, start .pre .state .wf .nodes, column-length 0 (start .args .nodes .now))),
+    (omega (arith, amount .ensures .spare-fits),
+    omega (arith, amount-most (start .pre) (amount .result) (amount .ensures) .0)))
 
 same-length : tie.Need-same-length
 same-length c = search needs
@@ -23,7 +36,12 @@ same-length-2 : tie.Need-same-length-2
 same-length-2 c = search needs
 
 returns : tie.Need-returns
-returns c = augments (c .before .before .charge .last .0) (c .before .before .before .before .before .before .before .before .before .before .before .before .before .before .pre) (c .before .before .before .before .before .before .before .before .before .amount .ensures) (c .before .before .before .before .before .before .walk .ensures) (c .before .before .charge .ensures .0) (c .before .before .charge .ensures .1)
+returns c =
+    let start = c .before .before .before .before .before .before .before .before .before .before .before .before .before .before in
+    let amount = c .before .before .before .before .before .before .before .before .before .amount in
+    let walk = c .before .before .before .before .before .before .walk in
+    let charge = c .before .before .charge in
+    augments (charge .last .0) (start .pre) (amount .ensures) (walk .ensures) (charge .ensures .0) (charge .ensures .1)
 
 pub augment-spec : {M : Type 1} → statement M
 augment-spec =

@@ -12,7 +12,9 @@ use Rattle.circulation.proofs.augment.walk.Statement.{statement}
 use Rattle.circulation.proofs.augment.walk.Tie as tie
 
 abbrev Inv-loop : tie.InvT-loop
-Inv-loop arcs flows₀ nodes s t d v₀ flows v = Walking (net arcs (length flows₀)) s t d (potentials nodes) flows₀ (column 1 nodes) (ranks nodes) (parents nodes) (rooms nodes) flows v
+Inv-loop arcs flows₀ nodes s t d v₀ flows v =
+    Walking (net arcs (length flows₀)) s t d (potentials nodes) flows₀ (column 1 nodes) (ranks nodes) (parents nodes)
+    (rooms nodes) flows v
 
 abbrev μ-loop : tie.MeasureT-loop
 μ-loop arcs flows₀ nodes s t d v₀ flows v = at (ranks nodes) v
@@ -21,16 +23,55 @@ loop-holds : tie.Need-loop-holds Inv-loop μ-loop
 loop-holds c = walk-start (c .before .before .before .pre .0) (c .before .before .before .pre .1)
 
 get-requires : tie.Need-get-requires Inv-loop μ-loop
-get-requires c κs = (omega (arith, c .before .before .loop .inv .v-in, column-length 0 (c .before .before .before .before .before .before .args .nodes .now)), omega (arith, c .before .before .loop .inv .v-in, c .before .before .before .before .before .before .pre .0 .state .wf .nodes), omega arith)
+get-requires c κs =
+    let start = c .before .before .before .before .before .before in
+    let loop = c .before .before .loop in
+    (omega (arith, loop .inv .v-in, column-length 0 (start .args .nodes .now)),
+    omega (arith, loop .inv .v-in, start .pre .0 .state .wf .nodes), omega arith)
 
 push-requires : tie.Need-push-requires Inv-loop μ-loop
-push-requires c κs = subst (λ (m : ℕ). Pushable (net (c .before .before .before .before .before .before .before .args .arcs .now) m) (c .before .before .before .loop .flows) (c .get .result) (c .before .before .before .loop .v) (c .before .before .before .before .before .before .before .args .d)) (sym (c .before .before .before .loop .inv .x-size)) (subst (λ (i : ℕ). Pushable (net (c .before .before .before .before .before .before .before .args .arcs .now) (length (c .before .before .before .before .before .before .before .args .flows .now))) (c .before .before .before .loop .flows) i (c .before .before .before .loop .v) (c .before .before .before .before .before .before .before .args .d)) (sym (c .get .ensures)) (pushable (c .before .before .before .loop .inv) (c .before .before .loop-test .taken)))
+push-requires c κs =
+    let start = c .before .before .before .before .before .before .before in
+    let loop = c .before .before .before .loop in
+    subst
+    (λ (m : ℕ). Pushable (net (start .args .arcs .now) m) (loop .flows) (c .get .result) (loop .v) (start .args .d))
+    (sym (loop .inv .x-size))
+    (subst
+    (λ (i : ℕ). Pushable (net (start .args .arcs .now) (length (start .args .flows .now))) (loop .flows) i (loop .v)
+    (start .args .d))
+    (sym (c .get .ensures)) (pushable (loop .inv) (c .before .before .loop-test .taken)))
 
 loop-less : tie.Need-loop-less Inv-loop μ-loop
-loop-less c = walk-next (c .before .before .before .before .before .before .loop .inv) (c .before .before .before .before .before .loop-test .taken) (c .before .before .push .last .1 .0) (c .before .before .push .result) (subst (λ (m : ℕ). Pushed (net (c .before .before .before .before .before .before .before .before .before .before .args .arcs .now) m) (c .before .before .before .before .before .before .loop .flows) (at (parents (c .before .before .before .before .before .before .before .before .before .before .args .nodes .now)) (c .before .before .before .before .before .before .loop .v)) (c .before .before .before .before .before .before .loop .v) (c .before .before .before .before .before .before .before .before .before .before .args .d) (c .before .before .push .last .1 .0) (c .before .before .push .result)) (c .before .before .before .before .before .before .loop .inv .x-size) (subst (λ (i : ℕ). Pushed (net (c .before .before .before .before .before .before .before .before .before .before .args .arcs .now) (length (c .before .before .before .before .before .before .loop .flows))) (c .before .before .before .before .before .before .loop .flows) i (c .before .before .before .before .before .before .loop .v) (c .before .before .before .before .before .before .before .before .before .before .args .d) (c .before .before .push .last .1 .0) (c .before .before .push .result)) (c .before .before .before .get .ensures) (c .before .before .push .ensures))) .1
+loop-less c =
+    let start = c .before .before .before .before .before .before .before .before .before .before in
+    let loop = c .before .before .before .before .before .before .loop in
+    let loop-test = c .before .before .before .before .before .loop-test in
+    let push = c .before .before .push in
+    walk-next (loop .inv) (loop-test .taken) (push .last .1 .0) (push .result)
+    (subst
+    (λ (m : ℕ). Pushed (net (start .args .arcs .now) m) (loop .flows) (at (parents (start .args .nodes .now)) (loop .v))
+    (loop .v) (start .args .d) (push .last .1 .0) (push .result))
+    (loop .inv .x-size)
+    (subst
+    (λ (i : ℕ). Pushed (net (start .args .arcs .now) (length (loop .flows))) (loop .flows) i (loop .v) (start .args .d)
+    (push .last .1 .0) (push .result))
+    (c .before .before .before .get .ensures) (push .ensures))) .1
 
 loop-again : tie.Need-loop-again Inv-loop μ-loop
-loop-again c = walk-next (c .before .before .before .before .before .before .loop .inv) (c .before .before .before .before .before .loop-test .taken) (c .before .before .push .last .1 .0) (c .before .before .push .result) (subst (λ (m : ℕ). Pushed (net (c .before .before .before .before .before .before .before .before .before .before .args .arcs .now) m) (c .before .before .before .before .before .before .loop .flows) (at (parents (c .before .before .before .before .before .before .before .before .before .before .args .nodes .now)) (c .before .before .before .before .before .before .loop .v)) (c .before .before .before .before .before .before .loop .v) (c .before .before .before .before .before .before .before .before .before .before .args .d) (c .before .before .push .last .1 .0) (c .before .before .push .result)) (c .before .before .before .before .before .before .loop .inv .x-size) (subst (λ (i : ℕ). Pushed (net (c .before .before .before .before .before .before .before .before .before .before .args .arcs .now) (length (c .before .before .before .before .before .before .loop .flows))) (c .before .before .before .before .before .before .loop .flows) i (c .before .before .before .before .before .before .loop .v) (c .before .before .before .before .before .before .before .before .before .before .args .d) (c .before .before .push .last .1 .0) (c .before .before .push .result)) (c .before .before .before .get .ensures) (c .before .before .push .ensures))) .0
+loop-again c =
+    let start = c .before .before .before .before .before .before .before .before .before .before in
+    let loop = c .before .before .before .before .before .before .loop in
+    let loop-test = c .before .before .before .before .before .loop-test in
+    let push = c .before .before .push in
+    walk-next (loop .inv) (loop-test .taken) (push .last .1 .0) (push .result)
+    (subst
+    (λ (m : ℕ). Pushed (net (start .args .arcs .now) m) (loop .flows) (at (parents (start .args .nodes .now)) (loop .v))
+    (loop .v) (start .args .d) (push .last .1 .0) (push .result))
+    (loop .inv .x-size)
+    (subst
+    (λ (i : ℕ). Pushed (net (start .args .arcs .now) (length (loop .flows))) (loop .flows) i (loop .v) (start .args .d)
+    (push .last .1 .0) (push .result))
+    (c .before .before .before .get .ensures) (push .ensures))) .0
 
 same-length : tie.Need-same-length Inv-loop μ-loop
 same-length c = c .before .loop .inv .x-size

@@ -11,7 +11,8 @@ use Rattle.circulation.proofs.finish.erase.Statement.{statement}
 use Rattle.circulation.proofs.finish.erase.Tie as tie
 
 abbrev Inv-loop : tie.InvT-loop
-Inv-loop chains₀ i₀ chains i = (i ≤ length chains₀) × (length chains ≡ length chains₀) × ((k : ℕ) → k < i → at chains k ≡ 0)
+Inv-loop chains₀ i₀ chains i =
+    (i ≤ length chains₀) × (length chains ≡ length chains₀) × ((k : ℕ) → k < i → at chains k ≡ 0)
 
 abbrev μ-loop : tie.MeasureT-loop
 μ-loop chains₀ i₀ chains i = length chains₀ - i
@@ -32,7 +33,10 @@ loop-less : tie.Need-loop-less Inv-loop μ-loop
 loop-less c = search needs
 
 loop-again : tie.Need-loop-again Inv-loop μ-loop
-loop-again c = (omega (arith, c .loop-test .taken, c .before .loop .inv .1), search needs, zeros-more (c .before .loop .chains) (c .before .loop .i) (omega (arith, c .loop-test .taken)) (c .before .loop .inv .2))
+loop-again c =
+    (omega (arith, c .loop-test .taken, c .before .loop .inv .1), search needs,
+    zeros-more (c .before .loop .chains) (c .before .loop .i) (omega (arith, c .loop-test .taken))
+    (c .before .loop .inv .2))
 
 same-length : tie.Need-same-length Inv-loop μ-loop
 same-length c = search needs

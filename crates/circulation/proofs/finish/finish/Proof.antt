@@ -20,7 +20,11 @@ same-length-2 : tie.Need-same-length-2
 same-length-2 c = search needs
 
 returns : tie.Need-returns
-returns c = (settled-same (c .before .before .before .before .before .before .before .before .before .before .settle .ensures) (c .before .before .before .before .before .before .clear-others .ensures .1), (c .before .before .before .before .before .before .clear-others .ensures .0, c .before .before .erase .ensures))
+returns c =
+    let settle = c .before .before .before .before .before .before .before .before .before .before .settle in
+    let clear-others = c .before .before .before .before .before .before .clear-others in
+    (settled-same (settle .ensures) (clear-others .ensures .1),
+    (clear-others .ensures .0, c .before .before .erase .ensures))
 
 pub finish-spec : {M : Type 1} → statement M
 finish-spec =

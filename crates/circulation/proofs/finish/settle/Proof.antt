@@ -24,22 +24,47 @@ sub-get : tie.Need-sub-get Inv-loop μ-loop
 sub-get c = omega (arith, c .before .count-of .ensures, c .before .before .before .before .pre .some)
 
 get-requires : tie.Need-get-requires Inv-loop μ-loop
-get-requires c κs = (omega (arith, c .before .count-of .ensures, c .before .before .before .before .pre .some), omega (arith, c .before .count-of .ensures, c .before .before .before .before .pre .some, c .before .before .before .before .pre .few), omega arith)
+get-requires c κs =
+    let start = c .before .before .before .before in
+    (omega (arith, c .before .count-of .ensures, start .pre .some),
+    omega (arith, c .before .count-of .ensures, start .pre .some, start .pre .few), omega arith)
 
 loop-holds : tie.Need-loop-holds Inv-loop μ-loop
-loop-holds c = (settle-start, c .before .before .count-of .ensures, c .get .ensures ∙ ap (λ (k : ℕ). at (potentials (c .before .before .before .before .before .args .nodes .now)) (k - 1)) (c .before .before .count-of .ensures))
+loop-holds c =
+    let start = c .before .before .before .before .before in
+    let count-of = c .before .before .count-of in
+    (settle-start, count-of .ensures,
+    c .get .ensures ∙ ap (λ (k : ℕ). at (potentials (start .args .nodes .now)) (k - 1)) (count-of .ensures))
 
 get-requires-2 : tie.Need-get-requires-2 Inv-loop μ-loop
-get-requires-2 c κs = (omega (arith, c .before .loop-test .taken, c .before .before .loop .inv .1, c .before .before .loop .inv .0 .length-same), omega (arith, c .before .loop-test .taken, c .before .before .loop .inv .1, c .before .before .before .before .before .before .before .before .pre .few), omega arith)
+get-requires-2 c κs =
+    let start = c .before .before .before .before .before .before .before .before in
+    let loop = c .before .before .loop in
+    (omega (arith, c .before .loop-test .taken, loop .inv .1, loop .inv .0 .length-same),
+    omega (arith, c .before .loop-test .taken, loop .inv .1, start .pre .few), omega arith)
 
 add-put : tie.Need-add-put Inv-loop μ-loop
-add-put c = omega (arith, c .before .get2 .ensures, c .before .before .before .before .loop .inv .0 .todo (c .before .before .before .before .loop .v) (omega arith), c .before .before .before .before .before .before .before .before .before .before .pre .small (c .before .before .before .before .loop .v))
+add-put c =
+    let start = c .before .before .before .before .before .before .before .before .before .before in
+    let loop = c .before .before .before .before .loop in
+    omega (arith, c .before .get2 .ensures, loop .inv .0 .todo (loop .v) (omega arith), start .pre .small (loop .v))
 
 sub-put : tie.Need-sub-put Inv-loop μ-loop
-sub-put c = omega (arith, c .before .get2 .ensures, c .before .before .before .before .loop .inv .0 .todo (c .before .before .before .before .loop .v) (omega arith), c .before .before .before .before .loop .inv .2, c .before .before .before .before .before .before .before .before .before .before .pre .near (c .before .before .before .before .loop .v) (omega (arith, c .before .before .before .loop-test .taken, c .before .before .before .before .loop .inv .1)))
+sub-put c =
+    let start = c .before .before .before .before .before .before .before .before .before .before in
+    let loop = c .before .before .before .before .loop in
+    omega
+    (arith, c .before .get2 .ensures, loop .inv .0 .todo (loop .v) (omega arith), loop .inv .2,
+    start .pre .near (loop .v) (omega (arith, c .before .before .before .loop-test .taken, loop .inv .1)))
 
 put-requires : tie.Need-put-requires Inv-loop μ-loop
-put-requires c κs = (omega (arith, c .before .before .before .loop-test .taken, c .before .before .before .before .loop .inv .1, c .before .before .before .before .loop .inv .0 .length-same), omega (arith, c .before .before .before .loop-test .taken, c .before .before .before .before .loop .inv .1, c .before .before .before .before .before .before .before .before .before .before .pre .few), omega arith, omega (arith, c .before .get2 .ensures, c .before .before .before .before .loop .inv .0 .todo (c .before .before .before .before .loop .v) (omega arith), c .before .before .before .before .before .before .before .before .before .before .pre .small (c .before .before .before .before .loop .v)))
+put-requires c κs =
+    let start = c .before .before .before .before .before .before .before .before .before .before in
+    let loop = c .before .before .before .before .loop in
+    let loop-test = c .before .before .before .loop-test in
+    (omega (arith, loop-test .taken, loop .inv .1, loop .inv .0 .length-same),
+    omega (arith, loop-test .taken, loop .inv .1, start .pre .few), omega arith,
+    omega (arith, c .before .get2 .ensures, loop .inv .0 .todo (loop .v) (omega arith), start .pre .small (loop .v)))
 
 add-v : tie.Need-add-v Inv-loop μ-loop
 add-v c = search needs
@@ -48,7 +73,17 @@ loop-less : tie.Need-loop-less Inv-loop μ-loop
 loop-less c = omega (arith, c .before .before .before .before .before .before .loop-test .taken)
 
 loop-again : tie.Need-loop-again Inv-loop μ-loop
-loop-again c = (settle-next (c .before .before .put .last .0) (c .before .before .before .before .before .before .before .loop .inv .0) (omega (arith, c .before .before .before .before .before .before .loop-test .taken, c .before .before .before .before .before .before .before .loop .inv .1)) (c .before .before .put .ensures) (omega (arith, c .before .before .before .before .get2 .ensures, c .before .before .before .before .before .before .before .loop .inv .0 .todo (c .before .before .before .before .before .before .before .loop .v) (omega arith), c .before .before .before .before .before .before .before .loop .inv .2, c .before .before .before .before .before .before .before .before .before .before .before .before .before .pre .near (c .before .before .before .before .before .before .before .loop .v) (omega (arith, c .before .before .before .before .before .before .loop-test .taken, c .before .before .before .before .before .before .before .loop .inv .1)))), c .before .before .before .before .before .before .before .loop .inv .1, c .before .before .before .before .before .before .before .loop .inv .2)
+loop-again c =
+    let start = c .before .before .before .before .before .before .before .before .before .before .before .before .before in
+    let loop = c .before .before .before .before .before .before .before .loop in
+    let loop-test = c .before .before .before .before .before .before .loop-test in
+    let get2 = c .before .before .before .before .get2 in
+    let put = c .before .before .put in
+    (settle-next (put .last .0) (loop .inv .0) (omega (arith, loop-test .taken, loop .inv .1)) (put .ensures)
+    (omega
+    (arith, get2 .ensures, loop .inv .0 .todo (loop .v) (omega arith), loop .inv .2,
+    start .pre .near (loop .v) (omega (arith, loop-test .taken, loop .inv .1)))),
+    loop .inv .1, loop .inv .2)
 
 same-length : tie.Need-same-length Inv-loop μ-loop
 same-length c = c .before .loop .inv .0 .length-same

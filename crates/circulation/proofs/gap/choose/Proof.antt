@@ -14,10 +14,17 @@ same-length : tie.Need-same-length
 same-length c = search needs
 
 returns : tie.Need-returns
-returns c = near-zero (net (c .before .before .before .before .before .before .before .before .before .args .arcs .now) (length (c .before .before .before .before .before .before .before .before .before .args .flows .now))) (at (potentials (c .before .before .before .before .before .before .before .before .before .args .nodes .now))) (at (c .before .before .before .before .before .before .before .before .before .args .flows .now)) (at (ranks (c .before .before .before .before .before .before .before .before .before .args .nodes .now))) (c .before .before .before .propose .result) (c .if1 .taken) (c .before .before .before .propose .ensures (c .if1 .taken))
+returns c =
+    let start = c .before .before .before .before .before .before .before .before .before in
+    let propose = c .before .before .before .propose in
+    near-zero (net (start .args .arcs .now) (length (start .args .flows .now)))
+    (at (potentials (start .args .nodes .now))) (at (start .args .flows .now)) (at (ranks (start .args .nodes .now)))
+    (propose .result) (c .if1 .taken) (propose .ensures (c .if1 .taken))
 
 nearest-requires : tie.Need-nearest-requires
-nearest-requires c κs = (c .before .before .before .before .before .before .before .before .before .pre .0, c .before .before .before .before .before .before .before .before .before .pre .1)
+nearest-requires c κs =
+    let start = c .before .before .before .before .before .before .before .before .before in
+    (start .pre .0, start .pre .1)
 
 same-length-2 : tie.Need-same-length-2
 same-length-2 c = search needs

@@ -10,7 +10,8 @@ use Rattle.circulation.proofs.gap.nearest.Statement.{statement}
 use Rattle.circulation.proofs.gap.nearest.Tie as tie
 
 abbrev Inv-loop : tie.InvT-loop
-Inv-loop arcs flows nodes best₀ arc₀ i₀ best arc i = Seeking (net arcs (length flows)) (at (potentials nodes)) (at flows) (at (ranks nodes)) best arc i
+Inv-loop arcs flows nodes best₀ arc₀ i₀ best arc i =
+    Seeking (net arcs (length flows)) (at (potentials nodes)) (at flows) (at (ranks nodes)) best arc i
 
 abbrev μ-loop : tie.MeasureT-loop
 μ-loop arcs flows nodes best₀ arc₀ i₀ best arc i = length flows - i
@@ -29,9 +30,10 @@ loop-less c = search needs
 
 loop-again : tie.Need-loop-again Inv-loop μ-loop
 loop-again c =
-    ⊎-elim
-    (λ w. rw (w .1, w .2) (seek-take (c .before .before .before .loop .inv) (c .before .before .loop-test .taken) (c .before .gap-at .ensures) (w .0 .taken)))
-    (λ w. rw (w .1, w .2) (seek-keep (c .before .before .before .loop .inv) (c .before .before .loop-test .taken) (c .before .gap-at .ensures) (w .0 .left)))
+    let loop = c .before .before .before .loop in
+    let loop-test = c .before .before .loop-test in
+    ⊎-elim (λ w. rw (w .1, w .2) (seek-take (loop .inv) (loop-test .taken) (c .before .gap-at .ensures) (w .0 .taken)))
+    (λ w. rw (w .1, w .2) (seek-keep (loop .inv) (loop-test .taken) (c .before .gap-at .ensures) (w .0 .left)))
     (c .if1 .came)
 
 returns : tie.Need-returns Inv-loop μ-loop

@@ -22,25 +22,41 @@ count-of-requires : tie.Need-count-of-requires Inv-loop μ-loop
 count-of-requires c κs = search needs
 
 loop-holds : tie.Need-loop-holds Inv-loop μ-loop
-loop-holds c = (refl, omega (arith, c .count-of .ensures, c .before .before .before .before .before .pre .wf .nodes, column-length 0 (c .before .before .before .before .before .args .nodes .now)))
+loop-holds c =
+    let start = c .before .before .before .before .before in
+    (refl, omega (arith, c .count-of .ensures, start .pre .wf .nodes, column-length 0 (start .args .nodes .now)))
 
 next-hint-requires : tie.Need-next-hint-requires Inv-loop μ-loop
 next-hint-requires c κs = c .before .before .loop .inv .1
 
 same-length : tie.Need-same-length Inv-loop μ-loop
-same-length c = c .before .before .before .next-hint .kept .0 ∙ c .before .before .before .before .before .before .loop .inv .0
+same-length c =
+    let loop = c .before .before .before .before .before .before .loop in
+    c .before .before .before .next-hint .kept .0 ∙ loop .inv .0
 
 returns : tie.Need-returns Inv-loop μ-loop
 returns c = λ l. absurd (omega arith)
 
 gap-at-requires : tie.Need-gap-at-requires Inv-loop μ-loop
-gap-at-requires c κs = (c .before .before .before .before .before .before .before .before .before .before .before .before .before .pre, c .if2 .taken)
+gap-at-requires c κs =
+    let start = c .before .before .before .before .before .before .before .before .before .before .before .before .before in
+    (start .pre, c .if2 .taken)
 
 same-length-2 : tie.Need-same-length-2 Inv-loop μ-loop
-same-length-2 c = c .before .before .before .before .before .before .next-hint .kept .0 ∙ c .before .before .before .before .before .before .before .before .before .loop .inv .0
+same-length-2 c =
+    let loop = c .before .before .before .before .before .before .before .before .before .loop in
+    let next-hint = c .before .before .before .before .before .before .next-hint in
+    next-hint .kept .0 ∙ loop .inv .0
 
 returns-2 : tie.Need-returns-2 Inv-loop μ-loop
-returns-2 c = λ l. subst (λ (r : ℕ). GapAt (net (c .before .before .before .before .before .before .before .before .before .before .before .before .before .before .before .args .arcs .now) (length (c .before .before .before .before .before .before .before .before .before .before .before .before .before .before .before .args .flows .now))) (at (potentials (c .before .before .before .before .before .before .before .before .before .before .before .before .before .before .before .args .nodes .now))) (at (c .before .before .before .before .before .before .before .before .before .before .before .before .before .before .before .args .flows .now)) (at (ranks (c .before .before .before .before .before .before .before .before .before .before .before .before .before .before .before .args .nodes .now))) (c .before .before .before .before .before .before .next-hint .result) r) (c .if3 .taken) (c .before .gap-at .ensures)
+returns-2 c =
+    let start = c .before .before .before .before .before .before .before .before .before .before .before .before .before .before .before in
+    let next-hint = c .before .before .before .before .before .before .next-hint in
+    λ l. subst
+    (λ (r : ℕ). GapAt (net (start .args .arcs .now) (length (start .args .flows .now)))
+    (at (potentials (start .args .nodes .now))) (at (start .args .flows .now)) (at (ranks (start .args .nodes .now)))
+    (next-hint .result) r)
+    (c .if3 .taken) (c .before .gap-at .ensures)
 
 sub-left : tie.Need-sub-left Inv-loop μ-loop
 sub-left c = omega (arith, c .before .before .before .before .before .before .loop-test .taken)
@@ -49,7 +65,10 @@ loop-less : tie.Need-loop-less Inv-loop μ-loop
 loop-less c = omega (arith, c .before .before .before .before .before .before .loop-test .taken)
 
 loop-again : tie.Need-loop-again Inv-loop μ-loop
-loop-again c = (c .before .before .before .before .next-hint .kept .0 ∙ c .before .before .before .before .before .before .before .loop .inv .0, c .before .before .before .before .before .before .before .loop .inv .1)
+loop-again c =
+    let loop = c .before .before .before .before .before .before .before .loop in
+    let next-hint = c .before .before .before .before .next-hint in
+    (next-hint .kept .0 ∙ loop .inv .0, loop .inv .1)
 
 same-length-3 : tie.Need-same-length-3 Inv-loop μ-loop
 same-length-3 c = c .before .loop .inv .0

@@ -20,7 +20,9 @@ loop-holds : tie.Need-loop-holds Inv-loop μ-loop
 loop-holds c = (omega arith, below-none _)
 
 get-requires : tie.Need-get-requires Inv-loop μ-loop
-get-requires c κs = (omega (arith, c .loop-test .taken, c .before .before .before .pre .0), omega (arith, c .loop-test .taken, c .before .before .before .pre .1), omega arith)
+get-requires c κs =
+    let start = c .before .before .before in
+    (omega (arith, c .loop-test .taken, start .pre .0), omega (arith, c .loop-test .taken, start .pre .1), omega arith)
 
 returns : tie.Need-returns Inv-loop μ-loop
 returns c = λ f. omega (arith, f (c .before .before .before .loop .v), c .before .get .ensures, c .if1 .taken)
@@ -32,10 +34,15 @@ loop-less : tie.Need-loop-less Inv-loop μ-loop
 loop-less c = search needs
 
 loop-again : tie.Need-loop-again Inv-loop μ-loop
-loop-again c = (omega (arith, c .before .before .loop-test .taken), below-more _ _ (c .before .before .before .loop .inv .1) (omega (arith, c .before .get .ensures, c .if1 .left)))
+loop-again c =
+    (omega (arith, c .before .before .loop-test .taken),
+    below-more _ _ (c .before .before .before .loop .inv .1) (omega (arith, c .before .get .ensures, c .if1 .left)))
 
 returns-2 : tie.Need-returns-2 Inv-loop μ-loop
-returns-2 c = all-small (c .before .before .before .args .nodes .now) (λ v l. c .before .loop .inv .1 v (omega (arith, c .loop-test .left, c .before .before .before .pre .0)))
+returns-2 c =
+    let start = c .before .before .before in
+    all-small (start .args .nodes .now)
+    (λ v l. c .before .loop .inv .1 v (omega (arith, c .loop-test .left, start .pre .0)))
 
 pub low-start-spec : {M : Type 1} → statement M
 low-start-spec =

@@ -19,13 +19,32 @@ loop-holds : tie.Need-loop-holds Inv-loop μ-loop
 loop-holds c = (omega arith, below-none _)
 
 first-flow-requires : tie.Need-first-flow-requires Inv-loop μ-loop
-first-flow-requires c κs = (c .before .before .before .before .pre .0, (c .before .before .before .before .pre .1, c .loop-test .taken))
+first-flow-requires c κs =
+    let start = c .before .before .before .before in
+    (start .pre .0, (start .pre .1, c .loop-test .taken))
 
 returns : tie.Need-returns Inv-loop μ-loop
-returns c = λ f. none-met (net (c .before .before .before .before .before .before .args .arcs .now) (c .before .before .before .before .before .before .args .m)) (size (c .before .before .before .before .before .before .args .nodes .now)) (at (potentials (c .before .before .before .before .before .before .args .nodes .now))) (c .before .before .before .loop .i) (c .before .first-flow .result) (c .before .first-flow .ensures) (c .before .before .before .before .before .before .pre .0 .arc-in (c .before .before .before .loop .i) (c .before .before .loop-test .taken)) (c .if1 .taken) (met-of (net (c .before .before .before .before .before .before .args .arcs .now) (c .before .before .before .before .before .before .args .m)) (at (potentials (c .before .before .before .before .before .before .args .nodes .now))) f (c .before .before .before .loop .i) (c .before .before .loop-test .taken))
+returns c =
+    let start = c .before .before .before .before .before .before in
+    let loop = c .before .before .before .loop in
+    let loop-test = c .before .before .loop-test in
+    λ f. none-met (net (start .args .arcs .now) (start .args .m)) (size (start .args .nodes .now))
+    (at (potentials (start .args .nodes .now))) (loop .i) (c .before .first-flow .result)
+    (c .before .first-flow .ensures) (start .pre .0 .arc-in (loop .i) (loop-test .taken)) (c .if1 .taken)
+    (met-of (net (start .args .arcs .now) (start .args .m)) (at (potentials (start .args .nodes .now))) f (loop .i)
+    (loop-test .taken))
 
 returns-2 : tie.Need-returns-2 Inv-loop μ-loop
-returns-2 c = λ f. not-met (net (c .before .before .before .before .before .before .before .args .arcs .now) (c .before .before .before .before .before .before .before .args .m)) (size (c .before .before .before .before .before .before .before .args .nodes .now)) (at (potentials (c .before .before .before .before .before .before .before .args .nodes .now))) (c .before .before .before .before .loop .i) (c .before .before .first-flow .result) (c .before .before .first-flow .ensures) (c .before .before .before .before .before .before .before .pre .0 .arc-in (c .before .before .before .before .loop .i) (c .before .before .before .loop-test .taken)) (c .before .if1 .left) (c .if2 .taken) (met-of (net (c .before .before .before .before .before .before .before .args .arcs .now) (c .before .before .before .before .before .before .before .args .m)) (at (potentials (c .before .before .before .before .before .before .before .args .nodes .now))) f (c .before .before .before .before .loop .i) (c .before .before .before .loop-test .taken))
+returns-2 c =
+    let start = c .before .before .before .before .before .before .before in
+    let loop = c .before .before .before .before .loop in
+    let loop-test = c .before .before .before .loop-test in
+    let first-flow = c .before .before .first-flow in
+    λ f. not-met (net (start .args .arcs .now) (start .args .m)) (size (start .args .nodes .now))
+    (at (potentials (start .args .nodes .now))) (loop .i) (first-flow .result) (first-flow .ensures)
+    (start .pre .0 .arc-in (loop .i) (loop-test .taken)) (c .before .if1 .left) (c .if2 .taken)
+    (met-of (net (start .args .arcs .now) (start .args .m)) (at (potentials (start .args .nodes .now))) f (loop .i)
+    (loop-test .taken))
 
 add-i : tie.Need-add-i Inv-loop μ-loop
 add-i c = search needs
@@ -34,10 +53,23 @@ loop-less : tie.Need-loop-less Inv-loop μ-loop
 loop-less c = search needs
 
 loop-again : tie.Need-loop-again Inv-loop μ-loop
-loop-again c = (omega arith, below-more _ _ (c .before .before .before .before .loop .inv .1) (met-by (net (c .before .before .before .before .before .before .before .args .arcs .now) (c .before .before .before .before .before .before .before .args .m)) (size (c .before .before .before .before .before .before .before .args .nodes .now)) (at (potentials (c .before .before .before .before .before .before .before .args .nodes .now))) (c .before .before .before .before .loop .i) (c .before .before .first-flow .result) (c .before .before .first-flow .ensures) (c .before .before .before .before .before .before .before .pre .0 .arc-in (c .before .before .before .before .loop .i) (c .before .before .before .loop-test .taken)) (c .before .if1 .left) (c .if2 .left)))
+loop-again c =
+    let start = c .before .before .before .before .before .before .before in
+    let loop = c .before .before .before .before .loop in
+    let first-flow = c .before .before .first-flow in
+    (omega arith,
+    below-more _ _ (loop .inv .1)
+    (met-by (net (start .args .arcs .now) (start .args .m)) (size (start .args .nodes .now))
+    (at (potentials (start .args .nodes .now))) (loop .i) (first-flow .result) (first-flow .ensures)
+    (start .pre .0 .arc-in (loop .i) (c .before .before .before .loop-test .taken)) (c .before .if1 .left)
+    (c .if2 .left)))
 
 returns-3 : tie.Need-returns-3 Inv-loop μ-loop
-returns-3 c = record { not-right = λ i l. c .before .loop .inv .1 i (omega (arith, c .loop-test .left)) .0; not-left = λ i l. c .before .loop .inv .1 i (omega (arith, c .loop-test .left)) .1 }
+returns-3 c =
+    record {
+      not-right = λ i l. c .before .loop .inv .1 i (omega (arith, c .loop-test .left)) .0;
+      not-left = λ i l. c .before .loop .inv .1 i (omega (arith, c .loop-test .left)) .1;
+    }
 
 pub meets-spec : {M : Type 1} → statement M
 meets-spec =

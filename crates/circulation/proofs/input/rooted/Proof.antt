@@ -25,7 +25,12 @@ any-hanger-requires : tie.Need-any-hanger-requires Inv-loop μ-loop
 any-hanger-requires c κs = (c .before .before .before .pre .0, c .before .before .before .pre .1)
 
 returns : tie.Need-returns Inv-loop μ-loop
-returns c = λ r. let h = r .hangs (c .before .before .before .loop .v) (omega (arith, c .before .before .loop-test .taken, c .before .before .before .loop .inv .0)) in c .before .any-hanger .ensures .none (c .if1 .taken) (h .arc) (omega arith) (h .arc-in) (subst (λ (j : ℕ). HangsBy (c .before .before .before .before .before .args .arcs .now) j (c .before .before .before .loop .v) (h .arc)) (sym (c .before .before .before .loop .inv .0)) (h .by))
+returns c =
+    let start = c .before .before .before .before .before in
+    let loop = c .before .before .before .loop in
+    λ r. let h = r .hangs (loop .v) (omega (arith, c .before .before .loop-test .taken, loop .inv .0)) in
+    c .before .any-hanger .ensures .none (c .if1 .taken) (h .arc) (omega arith) (h .arc-in)
+    (subst (λ (j : ℕ). HangsBy (start .args .arcs .now) j (loop .v) (h .arc)) (sym (loop .inv .0)) (h .by))
 
 add-v : tie.Need-add-v Inv-loop μ-loop
 add-v c = search needs
@@ -34,10 +39,21 @@ loop-less : tie.Need-loop-less Inv-loop μ-loop
 loop-less c = omega (arith, c .before .before .loop-test .taken)
 
 loop-again : tie.Need-loop-again Inv-loop μ-loop
-loop-again c = (c .before .before .before .loop .inv .0, below-more _ _ (c .before .before .before .loop .inv .1) (record { arc = c .before .any-hanger .result; arc-in = omega (arith, c .if1 .left); by = subst (λ (j : ℕ). HangsBy (c .before .before .before .before .before .args .arcs .now) j (c .before .before .before .loop .v) (c .before .any-hanger .result)) (c .before .before .before .loop .inv .0) (c .before .any-hanger .ensures .some (omega (arith, c .if1 .left))) }))
+loop-again c =
+    let start = c .before .before .before .before .before in
+    let loop = c .before .before .before .loop in
+    (loop .inv .0,
+    below-more _ _ (loop .inv .1)
+    (record {
+      arc = c .before .any-hanger .result;
+      arc-in = omega (arith, c .if1 .left);
+      by = subst (λ (j : ℕ). HangsBy (start .args .arcs .now) j (loop .v) (c .before .any-hanger .result))
+      (loop .inv .0) (c .before .any-hanger .ensures .some (omega (arith, c .if1 .left)));
+    }))
 
 returns-2 : tie.Need-returns-2 Inv-loop μ-loop
-returns-2 c = record { hangs = λ v l. c .before .loop .inv .1 v (omega (arith, c .loop-test .left, c .before .loop .inv .0)) }
+returns-2 c =
+    record { hangs = λ v l. c .before .loop .inv .1 v (omega (arith, c .loop-test .left, c .before .loop .inv .0)) }
 
 pub rooted-spec : {M : Type 1} → statement M
 rooted-spec =

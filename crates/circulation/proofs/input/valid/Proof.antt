@@ -17,25 +17,70 @@ well-formed-requires : tie.Need-well-formed-requires
 well-formed-requires c κs = search needs
 
 returns : tie.Need-returns
-returns c = λ v. tested-no (c .before .well-formed .result) (c .before .well-formed .ensures) (not-true (c .before .well-formed .result) (c .if1 .taken)) (rw (c .before .before .count-of .ensures) (v .wf))
+returns c =
+    λ v. tested-no (c .before .well-formed .result) (c .before .well-formed .ensures)
+    (not-true (c .before .well-formed .result) (c .if1 .taken)) (rw (c .before .before .count-of .ensures) (v .wf))
 
 low-start-requires : tie.Need-low-start-requires
-low-start-requires c κs = (c .before .before .count-of .ensures, (tested-yes (c .before .well-formed .result) (c .before .well-formed .ensures) (not-false (c .before .well-formed .result) (c .if1 .left))) .nodes)
+low-start-requires c κs =
+    (c .before .before .count-of .ensures,
+    (tested-yes (c .before .well-formed .result) (c .before .well-formed .ensures)
+    (not-false (c .before .well-formed .result) (c .if1 .left))) .nodes)
 
 returns-2 : tie.Need-returns-2
-returns-2 c = λ v. tested-no (c .before .low-start .result) (c .before .low-start .ensures) (not-true (c .before .low-start .result) (c .if2 .taken)) (v .p-in)
+returns-2 c =
+    λ v. tested-no (c .before .low-start .result) (c .before .low-start .ensures)
+    (not-true (c .before .low-start .result) (c .if2 .taken)) (v .p-in)
 
 rooted-requires : tie.Need-rooted-requires
-rooted-requires c κs = ((tested-yes (c .before .before .before .well-formed .result) (c .before .before .before .well-formed .ensures) (not-false (c .before .before .before .well-formed .result) (c .before .before .if1 .left))) .room, (tested-yes (c .before .before .before .well-formed .result) (c .before .before .before .well-formed .ensures) (not-false (c .before .before .before .well-formed .result) (c .before .before .if1 .left))) .few, (tested-yes (c .before .before .before .well-formed .result) (c .before .before .before .well-formed .ensures) (not-false (c .before .before .before .well-formed .result) (c .before .before .if1 .left))) .some, (tested-yes (c .before .before .before .well-formed .result) (c .before .before .before .well-formed .ensures) (not-false (c .before .before .before .well-formed .result) (c .before .before .if1 .left))) .nodes)
+rooted-requires c κs =
+    let well-formed = c .before .before .before .well-formed in
+    let if1 = c .before .before .if1 in
+    ((tested-yes (well-formed .result) (well-formed .ensures) (not-false (well-formed .result) (if1 .left))) .room,
+    (tested-yes (well-formed .result) (well-formed .ensures) (not-false (well-formed .result) (if1 .left))) .few,
+    (tested-yes (well-formed .result) (well-formed .ensures) (not-false (well-formed .result) (if1 .left))) .some,
+    (tested-yes (well-formed .result) (well-formed .ensures) (not-false (well-formed .result) (if1 .left))) .nodes)
 
 returns-3 : tie.Need-returns-3
-returns-3 c = λ v. tested-no (c .before .rooted .result) (c .before .rooted .ensures) (not-true (c .before .rooted .result) (c .if3 .taken)) (rw (c .before .before .before .before .before .before .count-of .ensures) (v .rooted))
+returns-3 c =
+    let count-of = c .before .before .before .before .before .before .count-of in
+    λ v. tested-no (c .before .rooted .result) (c .before .rooted .ensures)
+    (not-true (c .before .rooted .result) (c .if3 .taken)) (rw (count-of .ensures) (v .rooted))
 
 meets-requires : tie.Need-meets-requires
-meets-requires c κs = ((subst (λ (n : ℕ). WellFormed (net (c .before .before .before .before .before .before .before .before .before .args .arcs .now) (c .before .before .before .before .before .before .before .before .before .args .m)) n) (c .before .before .before .before .before .before .count-of .ensures) (tested-yes (c .before .before .before .before .before .well-formed .result) (c .before .before .before .before .before .well-formed .ensures) (not-false (c .before .before .before .before .before .well-formed .result) (c .before .before .before .before .if1 .left)))), first-small (tested-yes (c .before .before .before .low-start .result) (c .before .before .before .low-start .ensures) (not-false (c .before .before .before .low-start .result) (c .before .before .if2 .left))))
+meets-requires c κs =
+    let start = c .before .before .before .before .before .before .before .before .before in
+    let count-of = c .before .before .before .before .before .before .count-of in
+    let well-formed = c .before .before .before .before .before .well-formed in
+    let if1 = c .before .before .before .before .if1 in
+    let low-start = c .before .before .before .low-start in
+    ((subst (λ (n : ℕ). WellFormed (net (start .args .arcs .now) (start .args .m)) n) (count-of .ensures)
+    (tested-yes (well-formed .result) (well-formed .ensures) (not-false (well-formed .result) (if1 .left)))),
+    first-small
+    (tested-yes (low-start .result) (low-start .ensures) (not-false (low-start .result) (c .before .before .if2 .left))))
 
 returns-4 : tie.Need-returns-4
-returns-4 c = tested-map (λ f. record { wf = (subst (λ (n : ℕ). WellFormed (net (c .before .before .before .before .before .before .before .before .before .before .args .arcs .now) (c .before .before .before .before .before .before .before .before .before .before .args .m)) n) (c .before .before .before .before .before .before .before .count-of .ensures) (tested-yes (c .before .before .before .before .before .before .well-formed .result) (c .before .before .before .before .before .before .well-formed .ensures) (not-false (c .before .before .before .before .before .before .well-formed .result) (c .before .before .before .before .before .if1 .left)))); p-in = (tested-yes (c .before .before .before .before .low-start .result) (c .before .before .before .before .low-start .ensures) (not-false (c .before .before .before .before .low-start .result) (c .before .before .before .if2 .left))); feasible = f; rooted = (subst (λ (n : ℕ). Rooted (net (c .before .before .before .before .before .before .before .before .before .before .args .arcs .now) (c .before .before .before .before .before .before .before .before .before .before .args .m)) n) (c .before .before .before .before .before .before .before .count-of .ensures) (tested-yes (c .before .before .rooted .result) (c .before .before .rooted .ensures) (not-false (c .before .before .rooted .result) (c .before .if3 .left)))) }) (λ v. v .feasible) (c .meets .result) (c .meets .ensures)
+returns-4 c =
+    let start = c .before .before .before .before .before .before .before .before .before .before in
+    let count-of = c .before .before .before .before .before .before .before .count-of in
+    let well-formed = c .before .before .before .before .before .before .well-formed in
+    let if1 = c .before .before .before .before .before .if1 in
+    let low-start = c .before .before .before .before .low-start in
+    tested-map
+    (λ f. record {
+      wf =
+      (subst (λ (n : ℕ). WellFormed (net (start .args .arcs .now) (start .args .m)) n) (count-of .ensures)
+      (tested-yes (well-formed .result) (well-formed .ensures) (not-false (well-formed .result) (if1 .left))));
+      p-in =
+      (tested-yes (low-start .result) (low-start .ensures)
+      (not-false (low-start .result) (c .before .before .before .if2 .left)));
+      feasible = f;
+      rooted =
+      (subst (λ (n : ℕ). Rooted (net (start .args .arcs .now) (start .args .m)) n) (count-of .ensures)
+      (tested-yes (c .before .before .rooted .result) (c .before .before .rooted .ensures)
+      (not-false (c .before .before .rooted .result) (c .before .if3 .left))));
+    })
+    (λ v. v .feasible) (c .meets .result) (c .meets .ensures)
 
 pub valid-spec : {M : Type 1} → statement M
 valid-spec =

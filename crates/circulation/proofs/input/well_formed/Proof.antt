@@ -35,10 +35,15 @@ loop-holds : tie.Need-loop-holds Inv-loop μ-loop
 loop-holds c = (omega arith, below-none _)
 
 arc-ok-requires : tie.Need-arc-ok-requires Inv-loop μ-loop
-arc-ok-requires c κs = (omega (arith, c .before .before .if4 .left, c .loop-test .taken), omega (arith, c .before .before .before .if3 .left, c .loop-test .taken))
+arc-ok-requires c κs =
+    (omega (arith, c .before .before .if4 .left, c .loop-test .taken),
+    omega (arith, c .before .before .before .if3 .left, c .loop-test .taken))
 
 returns-5 : tie.Need-returns-5 Inv-loop μ-loop
-returns-5 c = λ w. tested-no (c .before .arc-ok .result) (c .before .arc-ok .ensures) (not-true (c .before .arc-ok .result) (c .if5 .taken)) (w .arc-in (c .before .before .before .loop .i) (c .before .before .loop-test .taken))
+returns-5 c =
+    λ w. tested-no (c .before .arc-ok .result) (c .before .arc-ok .ensures)
+    (not-true (c .before .arc-ok .result) (c .if5 .taken))
+    (w .arc-in (c .before .before .before .loop .i) (c .before .before .loop-test .taken))
 
 add-i : tie.Need-add-i Inv-loop μ-loop
 add-i c = search needs
@@ -47,10 +52,23 @@ loop-less : tie.Need-loop-less Inv-loop μ-loop
 loop-less c = omega (arith, c .before .before .loop-test .taken)
 
 loop-again : tie.Need-loop-again Inv-loop μ-loop
-loop-again c = (omega (arith, c .before .before .loop-test .taken), below-more _ _ (c .before .before .before .loop .inv .1) (tested-yes (c .before .arc-ok .result) (c .before .arc-ok .ensures) (not-false (c .before .arc-ok .result) (c .if5 .left))))
+loop-again c =
+    (omega (arith, c .before .before .loop-test .taken),
+    below-more _ _ (c .before .before .before .loop .inv .1)
+    (tested-yes (c .before .arc-ok .result) (c .before .arc-ok .ensures)
+    (not-false (c .before .arc-ok .result) (c .if5 .left))))
 
 returns-6 : tie.Need-returns-6 Inv-loop μ-loop
-returns-6 c = record { room = omega (arith, c .before .before .if4 .left); some = omega (arith, c .before .before .before .before .before .if1 .left); nodes = c .before .before .before .before .if2 .left; few = c .before .before .before .if3 .left; arc-in = λ i l. c .before .loop .inv .1 i (omega (arith, c .loop-test .left)) }
+returns-6 c =
+    let if1 = c .before .before .before .before .before .if1 in
+    let if2 = c .before .before .before .before .if2 in
+    record {
+      room = omega (arith, c .before .before .if4 .left);
+      some = omega (arith, if1 .left);
+      nodes = if2 .left;
+      few = c .before .before .before .if3 .left;
+      arc-in = λ i l. c .before .loop .inv .1 i (omega (arith, c .loop-test .left));
+    }
 
 pub well-formed-spec : {M : Type 1} → statement M
 well-formed-spec =

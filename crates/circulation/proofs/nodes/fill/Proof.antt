@@ -23,7 +23,10 @@ loop-holds : tie.Need-loop-holds Inv-loop μ-loop
 loop-holds c = (fill-start, c .count-of .ensures, omega (arith, c .count-of .ensures, c .before .before .before .pre))
 
 put-requires : tie.Need-put-requires Inv-loop μ-loop
-put-requires c κs = (omega (arith, c .before .loop-test .taken, c .before .before .loop .inv .1, c .before .before .loop .inv .0 .only .length-same), omega (arith, c .before .loop-test .taken, c .before .before .loop .inv .2), omega arith, omega arith)
+put-requires c κs =
+    let loop = c .before .before .loop in
+    (omega (arith, c .before .loop-test .taken, loop .inv .1, loop .inv .0 .only .length-same),
+    omega (arith, c .before .loop-test .taken, loop .inv .2), omega arith, omega arith)
 
 add-v : tie.Need-add-v Inv-loop μ-loop
 add-v c = search needs
@@ -32,13 +35,20 @@ loop-less : tie.Need-loop-less Inv-loop μ-loop
 loop-less c = search needs
 
 loop-again : tie.Need-loop-again Inv-loop μ-loop
-loop-again c = (fill-next (c .before .before .put .last .0) (c .before .before .before .before .before .loop .inv .0) (omega (arith, c .before .before .before .before .loop-test .taken, c .before .before .before .before .before .loop .inv .1)) (c .before .before .put .ensures), c .before .before .before .before .before .loop .inv .1, c .before .before .before .before .before .loop .inv .2)
+loop-again c =
+    let loop = c .before .before .before .before .before .loop in
+    let loop-test = c .before .before .before .before .loop-test in
+    let put = c .before .before .put in
+    (fill-next (put .last .0) (loop .inv .0) (omega (arith, loop-test .taken, loop .inv .1)) (put .ensures),
+    loop .inv .1, loop .inv .2)
 
 same-length : tie.Need-same-length Inv-loop μ-loop
 same-length c = c .before .loop .inv .0 .only .length-same
 
 returns : tie.Need-returns Inv-loop μ-loop
-returns c = (λ v l. c .before .loop .inv .0 .filled v (omega (arith, c .loop-test .left, c .before .loop .inv .1)), c .before .loop .inv .0 .only)
+returns c =
+    (λ v l. c .before .loop .inv .0 .filled v (omega (arith, c .loop-test .left, c .before .loop .inv .1)),
+    c .before .loop .inv .0 .only)
 
 pub fill-spec : {M : Type 1} → statement M
 fill-spec =

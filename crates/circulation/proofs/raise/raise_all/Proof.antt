@@ -22,7 +22,12 @@ loop-holds : tie.Need-loop-holds Inv-loop μ-loop
 loop-holds c = (move-start, c .count-of .ensures)
 
 raise-requires : tie.Need-raise-requires Inv-loop μ-loop
-raise-requires c κs = ((omega (arith, c .before .loop-test .taken, c .before .before .loop .inv .1, c .before .before .loop .inv .0 .only .length-same), omega (arith, c .before .loop-test .taken, c .before .before .loop .inv .1, c .before .before .before .before .before .before .pre .0)), move-fits (c .before .before .loop .inv .0) (omega (arith, c .before .loop-test .taken, c .before .before .loop .inv .1)) (c .before .before .before .before .before .before .pre .1 .1))
+raise-requires c κs =
+    let start = c .before .before .before .before .before .before in
+    let loop = c .before .before .loop in
+    ((omega (arith, c .before .loop-test .taken, loop .inv .1, loop .inv .0 .only .length-same),
+    omega (arith, c .before .loop-test .taken, loop .inv .1, start .pre .0)),
+    move-fits (loop .inv .0) (omega (arith, c .before .loop-test .taken, loop .inv .1)) (start .pre .1 .1))
 
 add-v : tie.Need-add-v Inv-loop μ-loop
 add-v c = search needs
@@ -31,13 +36,22 @@ loop-less : tie.Need-loop-less Inv-loop μ-loop
 loop-less c = search needs
 
 loop-again : tie.Need-loop-again Inv-loop μ-loop
-loop-again c = (move-next (c .before .before .before .before .before .loop .inv .0) (omega (arith, c .before .before .before .before .loop-test .taken, c .before .before .before .before .before .loop .inv .1)) (c .before .before .raise .last .0) (c .before .before .raise .ensures), c .before .before .before .before .before .loop .inv .1)
+loop-again c =
+    let loop = c .before .before .before .before .before .loop in
+    let loop-test = c .before .before .before .before .loop-test in
+    let raise = c .before .before .raise in
+    (move-next (loop .inv .0) (omega (arith, loop-test .taken, loop .inv .1)) (raise .last .0) (raise .ensures),
+    loop .inv .1)
 
 same-length : tie.Need-same-length Inv-loop μ-loop
 same-length c = c .before .loop .inv .0 .only .length-same
 
 returns : tie.Need-returns Inv-loop μ-loop
-returns c = (move-end (c .before .loop .inv .0) (omega (arith, c .loop-test .left, c .before .loop .inv .1)) (c .before .before .before .before .before .pre .1 .0) (c .before .before .before .before .before .pre .1 .1), c .before .loop .inv .0 .only)
+returns c =
+    let start = c .before .before .before .before .before in
+    (move-end (c .before .loop .inv .0) (omega (arith, c .loop-test .left, c .before .loop .inv .1)) (start .pre .1 .0)
+    (start .pre .1 .1),
+    c .before .loop .inv .0 .only)
 
 pub raise-all-spec : {M : Type 1} → statement M
 raise-all-spec =

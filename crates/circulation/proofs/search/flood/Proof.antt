@@ -15,7 +15,11 @@ use Rattle.circulation.proofs.search.flood.Statement.{statement}
 use Rattle.circulation.proofs.search.flood.Tie as tie
 
 abbrev Inv-loop : tie.InvT-loop
-Inv-loop arcs flows nodes₀ chains₀ n g count₀ nodes chains count = GrownAt (net arcs (length flows)) g count flows nodes × (length nodes ≡ length nodes₀) × (count ≤ n) × (length chains ≡ length chains₀)
+Inv-loop arcs flows nodes₀ chains₀ n g count₀ nodes chains count =
+    GrownAt (net arcs (length flows)) g count flows nodes
+    × (length nodes ≡ length nodes₀)
+    × (count ≤ n)
+    × (length chains ≡ length chains₀)
 
 abbrev μ-loop : tie.MeasureT-loop
 μ-loop arcs flows nodes₀ chains₀ n g count₀ nodes chains count = n - count
@@ -24,37 +28,107 @@ count-of-requires : tie.Need-count-of-requires Inv-loop μ-loop
 count-of-requires c κs = search needs
 
 sub-g : tie.Need-sub-g Inv-loop μ-loop
-sub-g c = omega (arith, c .count-of .ensures, column-length 0 (c .before .before .before .before .before .before .args .nodes .now), c .before .before .before .before .before .before .pre .0 .wf .some)
+sub-g c =
+    let start = c .before .before .before .before .before .before in
+    omega (arith, c .count-of .ensures, column-length 0 (start .args .nodes .now), start .pre .0 .wf .some)
 
 restart-requires : tie.Need-restart-requires Inv-loop μ-loop
-restart-requires c κs = (omega (arith, c .before .count-of .ensures, column-length 0 (c .before .before .before .before .before .before .before .args .nodes .now), c .before .before .before .before .before .before .before .pre .0 .wf .nodes), omega (arith, c .before .count-of .ensures, column-length 0 (c .before .before .before .before .before .before .before .args .nodes .now), c .before .before .before .before .before .before .before .pre .0 .wf .nodes, c .before .before .before .before .before .before .before .pre .0 .wf .some))
+restart-requires c κs =
+    let start = c .before .before .before .before .before .before .before in
+    (omega (arith, c .before .count-of .ensures, column-length 0 (start .args .nodes .now), start .pre .0 .wf .nodes),
+    omega
+    (arith, c .before .count-of .ensures, column-length 0 (start .args .nodes .now), start .pre .0 .wf .nodes,
+    start .pre .0 .wf .some))
 
 begin-requires : tie.Need-begin-requires Inv-loop μ-loop
-begin-requires c κs = (omega (arith, c .before .before .before .before .before .before .before .before .before .before .before .pre .0 .wf .nodes, column-length 0 (c .before .before .before .before .before .before .before .before .before .before .before .args .nodes .now)), omega (arith, c .before .before .before .before .before .count-of .ensures, column-length 0 (c .before .before .before .before .before .before .before .before .before .before .before .args .nodes .now), c .before .before .before .before .before .before .before .before .before .before .before .pre .0 .wf .some), omega arith)
+begin-requires c κs =
+    let start = c .before .before .before .before .before .before .before .before .before .before .before in
+    let count-of = c .before .before .before .before .before .count-of in
+    (omega (arith, start .pre .0 .wf .nodes, column-length 0 (start .args .nodes .now)),
+    omega (arith, count-of .ensures, column-length 0 (start .args .nodes .now), start .pre .0 .wf .some), omega arith)
 
 loop-holds : tie.Need-loop-holds Inv-loop μ-loop
-loop-holds c = (begin-grown (potentials (c .before .before .begin .last .0)) (c .before .before .before .before .before .before .before .before .before .before .before .before .before .before .args .flows .now) (ranks (c .before .before .begin .last .0)) (parents (c .before .before .begin .last .0)) (rooms (c .before .before .begin .last .0)) (c .before .before .before .before .before .before .before .before .count-of .result - 1) (omega (arith, c .before .before .before .before .before .before .before .before .count-of .ensures, column-length 0 (c .before .before .before .before .before .before .before .before .before .before .before .before .before .before .args .nodes .now), c .before .before .before .before .before .before .before .before .before .before .before .before .before .before .pre .0 .wf .some, column-length 0 (c .before .before .begin .last .0), c .before .before .begin .ensures .length-same)) (rw (c .before .before .begin .ensures .potentials-same) (c .before .before .before .before .before .before .before .before .before .before .before .before .before .before .pre .0 .wf)) (c .before .before .before .before .before .before .before .before .before .before .before .before .before .before .pre .0 .x-size) (rw (c .before .before .begin .ensures .potentials-same) (c .before .before .before .before .before .before .before .before .before .before .before .before .before .before .pre .0 .p-in)) (rw (c .before .before .begin .ensures .potentials-same) (c .before .before .before .before .before .before .before .before .before .before .before .before .before .before .pre .0 .slack)) (omega (arith, column-length 0 (c .before .before .begin .last .0), column-length 2 (c .before .before .begin .last .0))) (omega (arith, column-length 0 (c .before .before .begin .last .0), column-length 3 (c .before .before .begin .last .0))) (omega (arith, column-length 0 (c .before .before .begin .last .0), column-length 4 (c .before .before .begin .last .0))) (c .before .before .begin .ensures .root) (c .before .before .begin .ensures .alone) (omega (arith, c .before .before .begin .ensures .root-room)), refl, omega (arith, c .before .before .before .before .before .before .before .before .count-of .ensures, column-length 0 (c .before .before .before .before .before .before .before .before .before .before .before .before .before .before .args .nodes .now), c .before .before .before .before .before .before .before .before .before .before .before .before .before .before .pre .0 .wf .some), refl)
+loop-holds c =
+    let start = c .before .before .before .before .before .before .before .before .before .before .before .before .before .before in
+    let count-of = c .before .before .before .before .before .before .before .before .count-of in
+    let begin = c .before .before .begin in
+    (begin-grown (potentials (begin .last .0)) (start .args .flows .now) (ranks (begin .last .0))
+    (parents (begin .last .0)) (rooms (begin .last .0)) (count-of .result - 1)
+    (omega
+    (arith, count-of .ensures, column-length 0 (start .args .nodes .now), start .pre .0 .wf .some,
+    column-length 0 (begin .last .0), begin .ensures .length-same))
+    (rw (begin .ensures .potentials-same) (start .pre .0 .wf)) (start .pre .0 .x-size)
+    (rw (begin .ensures .potentials-same) (start .pre .0 .p-in))
+    (rw (begin .ensures .potentials-same) (start .pre .0 .slack))
+    (omega (arith, column-length 0 (begin .last .0), column-length 2 (begin .last .0)))
+    (omega (arith, column-length 0 (begin .last .0), column-length 3 (begin .last .0)))
+    (omega (arith, column-length 0 (begin .last .0), column-length 4 (begin .last .0))) (begin .ensures .root)
+    (begin .ensures .alone) (omega (arith, begin .ensures .root-room)),
+    refl, omega (arith, count-of .ensures, column-length 0 (start .args .nodes .now), start .pre .0 .wf .some), refl)
 
 extend-requires : tie.Need-extend-requires Inv-loop μ-loop
-extend-requires c κs = (c .before .before .before .loop .inv .0, flood-crosses (c .before .before .before .loop .inv .0) (omega (arith, c .before .before .before .before .before .before .before .before .before .before .before .before .count-of .ensures, column-length 0 (c .before .before .before .loop .nodes), c .before .before .before .loop .inv .1, c .before .before .before .before .before .before .begin .ensures .length-same)) (subst (λ (k : ℕ). Rooted (net (c .before .before .before .before .before .before .before .before .before .before .before .before .before .before .before .before .before .before .args .arcs .now) (length (c .before .before .before .before .before .before .before .before .before .before .before .before .before .before .before .before .before .before .args .flows .now))) k) (sym (column-length 0 (c .before .before .before .loop .nodes) ∙ ap (λ (k : ℕ). k / node-stride) (c .before .before .before .loop .inv .1 ∙ c .before .before .before .before .before .before .begin .ensures .length-same))) (c .before .before .before .before .before .before .before .before .before .before .before .before .before .before .before .before .before .before .pre .1)) (omega (arith, c .before .before .loop-test .taken, c .before .before .before .before .before .before .before .before .before .before .before .before .count-of .ensures, column-length 0 (c .before .before .before .loop .nodes), c .before .before .before .loop .inv .1, c .before .before .before .before .before .before .begin .ensures .length-same)))
+extend-requires c κs =
+    let start = c .before .before .before .before .before .before .before .before .before .before .before .before .before .before .before .before .before .before in
+    let count-of = c .before .before .before .before .before .before .before .before .before .before .before .before .count-of in
+    let begin = c .before .before .before .before .before .before .begin in
+    let loop = c .before .before .before .loop in
+    (loop .inv .0,
+    flood-crosses (loop .inv .0)
+    (omega (arith, count-of .ensures, column-length 0 (loop .nodes), loop .inv .1, begin .ensures .length-same))
+    (subst (λ (k : ℕ). Rooted (net (start .args .arcs .now) (length (start .args .flows .now))) k)
+    (sym (column-length 0 (loop .nodes) ∙ ap (λ (k : ℕ). k / node-stride) (loop .inv .1 ∙ begin .ensures .length-same)))
+    (start .pre .1))
+    (omega
+    (arith, c .before .before .loop-test .taken, count-of .ensures, column-length 0 (loop .nodes), loop .inv .1,
+    begin .ensures .length-same)))
 
 add-count : tie.Need-add-count Inv-loop μ-loop
-add-count c = omega (arith, c .before .before .before .before .before .before .before .loop-test .taken, c .before .before .before .before .before .before .before .before .before .before .before .before .before .before .before .before .before .count-of .ensures, column-length 0 (c .before .before .before .before .before .before .before .before .before .before .before .before .before .before .before .before .before .before .before .before .before .before .before .args .nodes .now), c .before .before .before .before .before .before .before .before .before .before .before .before .before .before .before .before .before .before .before .before .before .before .before .pre .0 .wf .nodes)
+add-count c =
+    let start = c .before .before .before .before .before .before .before .before .before .before .before .before .before .before .before .before .before .before .before .before .before .before .before in
+    let count-of = c .before .before .before .before .before .before .before .before .before .before .before .before .before .before .before .before .before .count-of in
+    let loop-test = c .before .before .before .before .before .before .before .loop-test in
+    omega
+    (arith, loop-test .taken, count-of .ensures, column-length 0 (start .args .nodes .now), start .pre .0 .wf .nodes)
 
 loop-less : tie.Need-loop-less Inv-loop μ-loop
 loop-less c = omega (arith, c .before .before .before .before .before .before .before .loop-test .taken)
 
 loop-again : tie.Need-loop-again Inv-loop μ-loop
-loop-again c = (c .before .before .before .before .extend .ensures .extends .grown, c .before .before .before .before .extend .ensures .length-same ∙ c .before .before .before .before .before .before .before .before .loop .inv .1, omega (arith, c .before .before .before .before .before .before .before .loop-test .taken), c .before .before .before .before .extend .kept .1 .1 .1 .0 ∙ c .before .before .before .before .before .before .before .before .loop .inv .3)
+loop-again c =
+    let loop = c .before .before .before .before .before .before .before .before .loop in
+    let loop-test = c .before .before .before .before .before .before .before .loop-test in
+    let extend = c .before .before .before .before .extend in
+    (extend .ensures .extends .grown, extend .ensures .length-same ∙ loop .inv .1, omega (arith, loop-test .taken),
+    extend .kept .1 .1 .1 .0 ∙ loop .inv .3)
 
 same-length : tie.Need-same-length Inv-loop μ-loop
 same-length c = c .before .loop .inv .1 ∙ c .before .before .before .before .begin .ensures .length-same
 
 same-length-2 : tie.Need-same-length-2 Inv-loop μ-loop
-same-length-2 c = c .before .loop .inv .3 ∙ c .before .before .before .before .before .before .before .before .restart .kept .0
+same-length-2 c =
+    let restart = c .before .before .before .before .before .before .before .before .restart in
+    c .before .loop .inv .3 ∙ restart .kept .0
 
 returns : tie.Need-returns Inv-loop μ-loop
-returns c = record { grown = subst (λ (s : ℕ). GrownAt (net (c .before .before .before .before .before .before .before .before .before .before .before .before .before .before .before .before .args .arcs .now) (length (c .before .before .before .before .before .before .before .before .before .before .before .before .before .before .before .before .args .flows .now))) s (size (c .before .before .before .before .before .before .before .before .before .before .before .before .before .before .before .before .args .nodes .now)) (c .before .before .before .before .before .before .before .before .before .before .before .before .before .before .before .before .args .flows .now) (c .before .loop .nodes)) (ap (λ (k : ℕ). k - 1) (c .before .before .before .before .before .before .before .before .before .before .count-of .ensures)) (subst (λ (k : ℕ). GrownAt (net (c .before .before .before .before .before .before .before .before .before .before .before .before .before .before .before .before .args .arcs .now) (length (c .before .before .before .before .before .before .before .before .before .before .before .before .before .before .before .before .args .flows .now))) (c .before .before .before .before .before .before .before .before .before .before .count-of .result - 1) k (c .before .before .before .before .before .before .before .before .before .before .before .before .before .before .before .before .args .flows .now) (c .before .loop .nodes)) (omega (arith, c .loop-test .left, c .before .loop .inv .2, c .before .before .before .before .before .before .before .before .before .before .count-of .ensures)) (c .before .loop .inv .0)); whole = λ v l. flood-whole (c .before .loop .inv .0) (omega (arith, c .loop-test .left, c .before .before .before .before .before .before .before .before .before .before .count-of .ensures, column-length 0 (c .before .loop .nodes), c .before .loop .inv .1, c .before .before .before .before .begin .ensures .length-same)) v (omega (arith, column-length 0 (c .before .loop .nodes), c .before .loop .inv .1, c .before .before .before .before .begin .ensures .length-same)) }
+returns c =
+    let start = c .before .before .before .before .before .before .before .before .before .before .before .before .before .before .before .before in
+    let count-of = c .before .before .before .before .before .before .before .before .before .before .count-of in
+    let begin = c .before .before .before .before .begin in
+    record {
+      grown = subst
+      (λ (s : ℕ). GrownAt (net (start .args .arcs .now) (length (start .args .flows .now))) s
+      (size (start .args .nodes .now)) (start .args .flows .now) (c .before .loop .nodes))
+      (ap (λ (k : ℕ). k - 1) (count-of .ensures))
+      (subst
+      (λ (k : ℕ). GrownAt (net (start .args .arcs .now) (length (start .args .flows .now))) (count-of .result - 1) k
+      (start .args .flows .now) (c .before .loop .nodes))
+      (omega (arith, c .loop-test .left, c .before .loop .inv .2, count-of .ensures)) (c .before .loop .inv .0));
+      whole = λ v l. flood-whole (c .before .loop .inv .0)
+      (omega
+      (arith, c .loop-test .left, count-of .ensures, column-length 0 (c .before .loop .nodes), c .before .loop .inv .1,
+      begin .ensures .length-same))
+      v (omega (arith, column-length 0 (c .before .loop .nodes), c .before .loop .inv .1, begin .ensures .length-same));
+    }
 
 pub flood-spec : {M : Type 1} → statement M
 flood-spec =

@@ -17,7 +17,10 @@ same-length : tie.Need-same-length
 same-length c = search needs
 
 returns : tie.Need-returns
-returns c = reaches (c .before .before .before .before .before .before .before .before .before .before .put .ensures) (c .before .before .before .before .before .before .put2 .ensures) (c .before .before .put3 .ensures)
+returns c =
+    let put = c .before .before .before .before .before .before .before .before .before .before .put in
+    let put2 = c .before .before .before .before .before .before .put2 in
+    reaches (put .ensures) (put2 .ensures) (c .before .before .put3 .ensures)
 
 pub reach-spec : {M : Type 1} → statement M
 reach-spec = tie.close (tie.spec put-requires put-requires-2 put-requires-3 same-length returns)

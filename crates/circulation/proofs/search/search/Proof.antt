@@ -15,13 +15,21 @@ use Rattle.circulation.proofs.search.search.Statement.{statement}
 use Rattle.circulation.proofs.search.search.Tie as tie
 
 abbrev Inv-loop : tie.InvT-loop
-Inv-loop arcs flows nodes₀ chains₀ s room count₀ nodes chains count = Searching (net arcs (length flows)) s count (potentials nodes₀) (potentials nodes) flows (column 1 nodes₀) (ranks nodes) (parents nodes) (rooms nodes) × (length nodes ≡ length nodes₀) × (column 1 nodes ≡ column 1 nodes₀) × (length chains ≡ length chains₀)
+Inv-loop arcs flows nodes₀ chains₀ s room count₀ nodes chains count =
+    Searching (net arcs (length flows)) s count (potentials nodes₀) (potentials nodes) flows (column 1 nodes₀)
+    (ranks nodes) (parents nodes) (rooms nodes)
+    × (length nodes ≡ length nodes₀)
+    × (column 1 nodes ≡ column 1 nodes₀)
+    × (length chains ≡ length chains₀)
 
 abbrev μ-loop : tie.MeasureT-loop
 μ-loop arcs flows nodes₀ chains₀ s room count₀ nodes chains count = length nodes₀ / node-stride - count
 
 get-requires : tie.Need-get-requires Inv-loop μ-loop
-get-requires c κs = (c .before .before .before .before .before .pre .1 .0, omega (arith, c .before .before .before .before .before .pre .1 .0, c .before .before .before .before .before .pre .0 .wf .nodes, column-length 0 (c .before .before .before .before .before .args .nodes .now)), omega arith)
+get-requires c κs =
+    let start = c .before .before .before .before .before in
+    (start .pre .1 .0,
+    omega (arith, start .pre .1 .0, start .pre .0 .wf .nodes, column-length 0 (start .args .nodes .now)), omega arith)
 
 sub-room : tie.Need-sub-room Inv-loop μ-loop
 sub-room c = omega (arith, c .get .ensures, c .before .before .before .before .before .before .pre .1 .1)
@@ -30,37 +38,105 @@ count-of-requires : tie.Need-count-of-requires Inv-loop μ-loop
 count-of-requires c κs = search needs
 
 restart-requires : tie.Need-restart-requires Inv-loop μ-loop
-restart-requires c κs = (omega (arith, c .count-of .ensures, c .before .before .before .before .before .before .before .before .before .pre .0 .wf .nodes, column-length 0 (c .before .before .before .before .before .before .before .before .before .args .nodes .now)), omega (arith, c .before .before .before .before .before .before .before .before .before .pre .1 .0, c .before .before .before .before .before .before .before .before .before .pre .0 .wf .nodes, column-length 0 (c .before .before .before .before .before .before .before .before .before .args .nodes .now)))
+restart-requires c κs =
+    let start = c .before .before .before .before .before .before .before .before .before in
+    (omega (arith, c .count-of .ensures, start .pre .0 .wf .nodes, column-length 0 (start .args .nodes .now)),
+    omega (arith, start .pre .1 .0, start .pre .0 .wf .nodes, column-length 0 (start .args .nodes .now)))
 
 begin-requires : tie.Need-begin-requires Inv-loop μ-loop
-begin-requires c κs = (omega (arith, c .before .before .before .before .before .before .before .before .before .before .before .before .before .pre .0 .wf .nodes, column-length 0 (c .before .before .before .before .before .before .before .before .before .before .before .before .before .args .nodes .now)), c .before .before .before .before .before .before .before .before .before .before .before .before .before .pre .1 .0, omega (arith, c .before .before .before .before .before .before .before .get .ensures, column-at 1 (c .before .before .before .before .before .before .before .before .before .before .before .before .before .args .nodes .now) (c .before .before .before .before .before .before .before .before .before .before .before .before .before .args .s) (c .before .before .before .before .before .before .before .before .before .before .before .before .before .pre .1 .0), c .before .before .before .before .before .before .before .before .before .before .slice-known .given (node-stride * c .before .before .before .before .before .before .before .before .before .before .before .before .before .args .s + 1)))
+begin-requires c κs =
+    let start = c .before .before .before .before .before .before .before .before .before .before .before .before .before in
+    let slice-known = c .before .before .before .before .before .before .before .before .before .before .slice-known in
+    let get = c .before .before .before .before .before .before .before .get in
+    (omega (arith, start .pre .0 .wf .nodes, column-length 0 (start .args .nodes .now)), start .pre .1 .0,
+    omega
+    (arith, get .ensures, column-at 1 (start .args .nodes .now) (start .args .s) (start .pre .1 .0),
+    slice-known .given (node-stride * start .args .s + 1)))
 
 loop-holds : tie.Need-loop-holds Inv-loop μ-loop
-loop-holds c = (search-start (c .before .before .before .before .before .before .before .before .before .before .before .before .before .before .before .before .args .s) (omega (arith, c .before .before .before .before .before .before .before .before .before .before .before .before .before .before .before .before .pre .1 .0, column-length 0 (c .before .before .begin .last .0), c .before .before .begin .ensures .length-same)) (rw (c .before .before .begin .ensures .potentials-same, c .before .before .begin .ensures .needs-same) (c .before .before .before .before .before .before .before .before .before .before .before .before .before .before .before .before .pre .0)) (omega (arith, column-length 0 (c .before .before .begin .last .0), column-length 2 (c .before .before .begin .last .0))) (omega (arith, column-length 0 (c .before .before .begin .last .0), column-length 3 (c .before .before .begin .last .0))) (omega (arith, column-length 0 (c .before .before .begin .last .0), column-length 4 (c .before .before .begin .last .0))) (c .before .before .begin .ensures .root) (c .before .before .begin .ensures .alone) (omega (arith, c .before .before .begin .ensures .root-room, c .before .before .before .before .before .before .before .before .before .before .get .ensures, c .before .before .before .before .before .before .before .before .before .before .before .before .before .before .before .before .pre .1 .1)) (omega (arith, c .before .before .begin .ensures .root-room, c .before .before .before .before .before .before .before .before .before .before .get .ensures, c .before .before .before .before .before .before .before .before .before .before .before .before .before .before .before .before .pre .1 .1, ap (λ (l : List ℕ). getD l (c .before .before .before .before .before .before .before .before .before .before .before .before .before .before .before .before .args .s) 0) (c .before .before .begin .ensures .needs-same))), refl, refl, refl)
+loop-holds c =
+    let start = c .before .before .before .before .before .before .before .before .before .before .before .before .before .before .before .before in
+    let get = c .before .before .before .before .before .before .before .before .before .before .get in
+    let begin = c .before .before .begin in
+    (search-start (start .args .s)
+    (omega (arith, start .pre .1 .0, column-length 0 (begin .last .0), begin .ensures .length-same))
+    (rw (begin .ensures .potentials-same, begin .ensures .needs-same) (start .pre .0))
+    (omega (arith, column-length 0 (begin .last .0), column-length 2 (begin .last .0)))
+    (omega (arith, column-length 0 (begin .last .0), column-length 3 (begin .last .0)))
+    (omega (arith, column-length 0 (begin .last .0), column-length 4 (begin .last .0))) (begin .ensures .root)
+    (begin .ensures .alone) (omega (arith, begin .ensures .root-room, get .ensures, start .pre .1 .1))
+    (omega
+    (arith, begin .ensures .root-room, get .ensures, start .pre .1 .1,
+    ap (λ (l : List ℕ). getD l (start .args .s) 0) (begin .ensures .needs-same))),
+    refl, refl, refl)
 
 extend-requires : tie.Need-extend-requires Inv-loop μ-loop
 extend-requires c κs = (c .before .before .loop .inv .0 .grown, search-crosses (c .before .before .loop .inv .0))
 
 get-requires-2 : tie.Need-get-requires-2 Inv-loop μ-loop
-get-requires-2 c κs = (omega (arith, c .before .before .before .before .before .extend .ensures .extends .v-in, column-length 0 (c .before .before .before .before .before .before .before .before .loop .nodes), c .before .before .before .before .before .extend .ensures .length-same), omega (arith, c .before .before .before .before .before .extend .ensures .extends .v-in, c .before .before .before .before .before .before .before .before .loop .inv .0 .grown .ready .wf .nodes), omega arith)
+get-requires-2 c κs =
+    let loop = c .before .before .before .before .before .before .before .before .loop in
+    let extend = c .before .before .before .before .before .extend in
+    (omega (arith, extend .ensures .extends .v-in, column-length 0 (loop .nodes), extend .ensures .length-same),
+    omega (arith, extend .ensures .extends .v-in, loop .inv .0 .grown .ready .wf .nodes), omega arith)
 
 same-length : tie.Need-same-length Inv-loop μ-loop
-same-length c = c .before .before .before .before .before .before .before .extend .ensures .length-same ∙ (c .before .before .before .before .before .before .before .before .before .before .loop .inv .1 ∙ c .before .before .before .before .before .before .before .before .before .before .before .before .before .begin .ensures .length-same)
+same-length c =
+    let begin = c .before .before .before .before .before .before .before .before .before .before .before .before .before .begin in
+    let loop = c .before .before .before .before .before .before .before .before .before .before .loop in
+    let extend = c .before .before .before .before .before .before .before .extend in
+    extend .ensures .length-same ∙ (loop .inv .1 ∙ begin .ensures .length-same)
 
 same-length-2 : tie.Need-same-length-2 Inv-loop μ-loop
-same-length-2 c = c .before .before .before .before .before .before .before .extend .kept .1 .1 .1 .0 ∙ (c .before .before .before .before .before .before .before .before .before .before .loop .inv .3 ∙ c .before .before .before .before .before .before .before .before .before .before .before .before .before .before .before .before .before .restart .kept .0)
+same-length-2 c =
+    let restart = c .before .before .before .before .before .before .before .before .before .before .before .before .before .before .before .before .before .restart in
+    let loop = c .before .before .before .before .before .before .before .before .before .before .loop in
+    let extend = c .before .before .before .before .before .before .before .extend in
+    extend .kept .1 .1 .1 .0 ∙ (loop .inv .3 ∙ restart .kept .0)
 
 returns : tie.Need-returns Inv-loop μ-loop
-returns c = record { reached = subst (λ (l : List ℕ). Reached (net (c .before .before .before .before .before .before .before .before .before .before .before .before .before .before .before .before .before .before .before .before .before .before .before .before .before .before .before .args .arcs .now) (length (c .before .before .before .before .before .before .before .before .before .before .before .before .before .before .before .before .before .before .before .before .before .before .before .before .before .before .before .args .flows .now))) (c .before .before .before .before .before .before .before .before .before .before .before .before .before .before .before .before .before .before .before .before .before .before .before .before .before .before .before .args .s) (c .before .before .before .before .before .before .before .extend .result) (potentials (c .before .before .before .before .before .before .before .extend .last .1 .1 .0)) (c .before .before .before .before .before .before .before .before .before .before .before .before .before .before .before .before .before .before .before .before .before .before .before .before .before .before .before .args .flows .now) l (ranks (c .before .before .before .before .before .before .before .extend .last .1 .1 .0)) (parents (c .before .before .before .before .before .before .before .extend .last .1 .1 .0)) (rooms (c .before .before .before .before .before .before .before .extend .last .1 .1 .0))) (sym (c .before .before .before .before .before .before .before .extend .ensures .needs-same ∙ c .before .before .before .before .before .before .before .before .before .before .loop .inv .2)) (search-found (c .before .before .before .before .before .before .before .extend .result) (c .before .before .before .before .before .before .before .before .before .before .loop .inv .0) (c .before .before .before .before .before .before .before .extend .ensures .extends) (c .before .before .before .before .before .before .before .extend .ensures .root-room) (omega (arith, c .before .get2 .ensures, c .if1 .taken, ap (λ (l : List ℕ). getD l (c .before .before .before .before .before .before .before .extend .result) 0) (c .before .before .before .before .before .before .before .extend .ensures .needs-same ∙ c .before .before .before .before .before .before .before .before .before .before .loop .inv .2)))); length-same = c .before .before .before .before .before .before .before .extend .ensures .length-same ∙ (c .before .before .before .before .before .before .before .before .before .before .loop .inv .1 ∙ c .before .before .before .before .before .before .before .before .before .before .before .before .before .begin .ensures .length-same); needs-same = (c .before .before .before .before .before .before .before .extend .ensures .needs-same ∙ c .before .before .before .before .before .before .before .before .before .before .loop .inv .2) ∙ c .before .before .before .before .before .before .before .before .before .before .before .before .before .begin .ensures .needs-same }
+returns c =
+    let start = c .before .before .before .before .before .before .before .before .before .before .before .before .before .before .before .before .before .before .before .before .before .before .before .before .before .before .before in
+    let begin = c .before .before .before .before .before .before .before .before .before .before .before .before .before .begin in
+    let loop = c .before .before .before .before .before .before .before .before .before .before .loop in
+    let extend = c .before .before .before .before .before .before .before .extend in
+    record {
+      reached = subst
+      (λ (l : List ℕ). Reached (net (start .args .arcs .now) (length (start .args .flows .now))) (start .args .s)
+      (extend .result) (potentials (extend .last .1 .1 .0)) (start .args .flows .now) l (ranks (extend .last .1 .1 .0))
+      (parents (extend .last .1 .1 .0)) (rooms (extend .last .1 .1 .0)))
+      (sym (extend .ensures .needs-same ∙ loop .inv .2))
+      (search-found (extend .result) (loop .inv .0) (extend .ensures .extends) (extend .ensures .root-room)
+      (omega
+      (arith, c .before .get2 .ensures, c .if1 .taken,
+      ap (λ (l : List ℕ). getD l (extend .result) 0) (extend .ensures .needs-same ∙ loop .inv .2))));
+      length-same = extend .ensures .length-same ∙ (loop .inv .1 ∙ begin .ensures .length-same);
+      needs-same = (extend .ensures .needs-same ∙ loop .inv .2) ∙ begin .ensures .needs-same;
+    }
 
 add-count : tie.Need-add-count Inv-loop μ-loop
-add-count c = omega (arith, crossing-room (c .before .before .before .before .before .before .before .before .before .before .loop .inv .0 .grown) (search-crosses (c .before .before .before .before .before .before .before .before .before .before .loop .inv .0)), c .before .before .before .before .before .before .before .before .before .before .loop .inv .0 .grown .ready .wf .nodes)
+add-count c =
+    let loop = c .before .before .before .before .before .before .before .before .before .before .loop in
+    omega
+    (arith, crossing-room (loop .inv .0 .grown) (search-crosses (loop .inv .0)), loop .inv .0 .grown .ready .wf .nodes)
 
 loop-less : tie.Need-loop-less Inv-loop μ-loop
-loop-less c = omega (arith, crossing-room (c .before .before .before .before .before .before .before .before .before .before .loop .inv .0 .grown) (search-crosses (c .before .before .before .before .before .before .before .before .before .before .loop .inv .0)), column-length 0 (c .before .before .before .before .before .before .before .before .before .before .loop .nodes), c .before .before .before .before .before .before .before .before .before .before .loop .inv .1)
+loop-less c =
+    let loop = c .before .before .before .before .before .before .before .before .before .before .loop in
+    omega
+    (arith, crossing-room (loop .inv .0 .grown) (search-crosses (loop .inv .0)), column-length 0 (loop .nodes),
+    loop .inv .1)
 
 loop-again : tie.Need-loop-again Inv-loop μ-loop
-loop-again c = (search-next (c .before .before .before .before .before .before .before .extend .result) (c .before .before .before .before .before .before .before .before .before .before .loop .inv .0) (c .before .before .before .before .before .before .before .extend .ensures .extends) (c .before .before .before .before .before .before .before .extend .ensures .root-room) (omega (arith, c .before .get2 .ensures, c .if1 .left, ap (λ (l : List ℕ). getD l (c .before .before .before .before .before .before .before .extend .result) 0) (c .before .before .before .before .before .before .before .extend .ensures .needs-same ∙ c .before .before .before .before .before .before .before .before .before .before .loop .inv .2))), c .before .before .before .before .before .before .before .extend .ensures .length-same ∙ c .before .before .before .before .before .before .before .before .before .before .loop .inv .1, (c .before .before .before .before .before .before .before .extend .ensures .needs-same ∙ c .before .before .before .before .before .before .before .before .before .before .loop .inv .2), c .before .before .before .before .before .before .before .extend .kept .1 .1 .1 .0 ∙ c .before .before .before .before .before .before .before .before .before .before .loop .inv .3)
+loop-again c =
+    let loop = c .before .before .before .before .before .before .before .before .before .before .loop in
+    let extend = c .before .before .before .before .before .before .before .extend in
+    (search-next (extend .result) (loop .inv .0) (extend .ensures .extends) (extend .ensures .root-room)
+    (omega
+    (arith, c .before .get2 .ensures, c .if1 .left,
+    ap (λ (l : List ℕ). getD l (extend .result) 0) (extend .ensures .needs-same ∙ loop .inv .2))),
+    extend .ensures .length-same ∙ loop .inv .1, (extend .ensures .needs-same ∙ loop .inv .2),
+    extend .kept .1 .1 .1 .0 ∙ loop .inv .3)
 
 pub search-spec : {M : Type 1} → statement M
 search-spec =

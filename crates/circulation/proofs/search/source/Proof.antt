@@ -11,7 +11,9 @@ use Rattle.circulation.proofs.search.source.Statement.{statement}
 use Rattle.circulation.proofs.search.source.Tie as tie
 
 abbrev Inv-loop : tie.InvT-loop
-Inv-loop nodes v₀ v = (v ≤ length nodes / node-stride) × ((k : ℕ) → v ≤ k → k < length nodes / node-stride → at (column 1 nodes) k ≤ need-zero)
+Inv-loop nodes v₀ v =
+    (v ≤ length nodes / node-stride)
+    × ((k : ℕ) → v ≤ k → k < length nodes / node-stride → at (column 1 nodes) k ≤ need-zero)
 
 abbrev μ-loop : tie.MeasureT-loop
 μ-loop nodes v₀ v = v
@@ -26,16 +28,26 @@ sub-u : tie.Need-sub-u Inv-loop μ-loop
 sub-u c = search needs
 
 get-requires : tie.Need-get-requires Inv-loop μ-loop
-get-requires c κs = (omega (arith, c .before .loop .inv .0, c .loop-test .taken), omega (arith, c .before .loop .inv .0, c .loop-test .taken, c .before .before .before .before .pre), omega arith)
+get-requires c κs =
+    let start = c .before .before .before .before in
+    (omega (arith, c .before .loop .inv .0, c .loop-test .taken),
+    omega (arith, c .before .loop .inv .0, c .loop-test .taken, start .pre), omega arith)
 
 returns : tie.Need-returns Inv-loop μ-loop
-returns c = (omega (arith, c .before .before .before .loop .inv .0, c .before .before .loop-test .taken), omega (arith, c .before .get .ensures, c .if1 .taken))
+returns c =
+    (omega (arith, c .before .before .before .loop .inv .0, c .before .before .loop-test .taken),
+    omega (arith, c .before .get .ensures, c .if1 .taken))
 
 loop-less : tie.Need-loop-less Inv-loop μ-loop
 loop-less c = omega (arith, c .before .before .loop-test .taken)
 
 loop-again : tie.Need-loop-again Inv-loop μ-loop
-loop-again c = (omega (arith, c .before .before .before .loop .inv .0), λ k l m. elim (ℕ-discrete k (c .before .before .before .loop .v - 1)) [ yes e ↦ omega (arith, ap (at (column 1 (c .before .before .before .before .before .before .args .nodes .now))) e, c .before .get .ensures, c .if1 .left) | no ne ↦ c .before .before .before .loop .inv .1 k (omega (arith, c .before .before .loop-test .taken)) m ])
+loop-again c =
+    let start = c .before .before .before .before .before .before in
+    let loop = c .before .before .before .loop in
+    (omega (arith, loop .inv .0),
+    λ k l m. elim (ℕ-discrete k (loop .v - 1))
+    [ yes e ↦ omega (arith, ap (at (column 1 (start .args .nodes .now))) e, c .before .get .ensures, c .if1 .left) | no ne ↦ loop .inv .1 k (omega (arith, c .before .before .loop-test .taken)) m ])
 
 returns-2 : tie.Need-returns-2 Inv-loop μ-loop
 returns-2 c = λ k m. c .before .loop .inv .1 k (omega (arith, c .loop-test .left)) m

@@ -14,7 +14,11 @@ use Rattle.circulation.proofs.start.saturate.Statement.{statement}
 use Rattle.circulation.proofs.start.saturate.Tie as tie
 
 abbrev Inv-loop : tie.InvT-loop
-Inv-loop arcs flows₀ nodes m i₀ flows i = (i ≤ m) × (m ≡ length flows₀) × (length flows ≡ length flows₀) × ((k : ℕ) → k < i → FilledAt (net arcs m) (at (potentials nodes)) k (at flows k))
+Inv-loop arcs flows₀ nodes m i₀ flows i =
+    (i ≤ m)
+    × (m ≡ length flows₀)
+    × (length flows ≡ length flows₀)
+    × ((k : ℕ) → k < i → FilledAt (net arcs m) (at (potentials nodes)) k (at flows k))
 
 abbrev μ-loop : tie.MeasureT-loop
 μ-loop arcs flows₀ nodes m i₀ flows i = m - i
@@ -23,10 +27,22 @@ loop-holds : tie.Need-loop-holds Inv-loop μ-loop
 loop-holds c = (omega arith, refl, refl, below-none _)
 
 first-flow-requires : tie.Need-first-flow-requires Inv-loop μ-loop
-first-flow-requires c κs = (rw (c .before .loop .inv .1) (c .before .before .before .before .before .pre .wf), (first-small (c .before .before .before .before .before .pre .p-in), c .loop-test .taken))
+first-flow-requires c κs =
+    let start = c .before .before .before .before .before in
+    (rw (c .before .loop .inv .1) (start .pre .wf), (first-small (start .pre .p-in), c .loop-test .taken))
 
 set-flow-requires : tie.Need-set-flow-requires Inv-loop μ-loop
-set-flow-requires c κs = (omega (arith, c .before .before .before .loop .inv .1, c .before .before .before .loop .inv .2, c .before .before .loop-test .taken), omega (arith, c .before .before .before .loop .inv .1, c .before .before .before .before .before .before .before .pre .wf .few, c .before .before .loop-test .taken), omega (arith, filled-top (net (c .before .before .before .before .before .before .before .args .arcs .now) (length (c .before .before .before .before .before .before .before .args .flows .now))) (size (c .before .before .before .before .before .before .before .args .nodes .now)) (at (potentials (c .before .before .before .before .before .before .before .args .nodes .now))) (c .before .before .before .loop .i) (c .before .first-flow .result) (c .before .before .before .before .before .before .before .pre .wf .arc-in (c .before .before .before .loop .i) (omega (arith, c .before .before .before .loop .inv .1, c .before .before .loop-test .taken))) (c .before .first-flow .ensures)))
+set-flow-requires c κs =
+    let start = c .before .before .before .before .before .before .before in
+    let loop = c .before .before .before .loop in
+    let loop-test = c .before .before .loop-test in
+    (omega (arith, loop .inv .1, loop .inv .2, loop-test .taken),
+    omega (arith, loop .inv .1, start .pre .wf .few, loop-test .taken),
+    omega
+    (arith,
+    filled-top (net (start .args .arcs .now) (length (start .args .flows .now))) (size (start .args .nodes .now))
+    (at (potentials (start .args .nodes .now))) (loop .i) (c .before .first-flow .result)
+    (start .pre .wf .arc-in (loop .i) (omega (arith, loop .inv .1, loop-test .taken))) (c .before .first-flow .ensures)))
 
 add-i : tie.Need-add-i Inv-loop μ-loop
 add-i c = search needs
@@ -35,7 +51,19 @@ loop-less : tie.Need-loop-less Inv-loop μ-loop
 loop-less c = search needs
 
 loop-again : tie.Need-loop-again Inv-loop μ-loop
-loop-again c = (omega (arith, c .before .before .before .before .before .loop-test .taken), c .before .before .before .before .before .before .loop .inv .1, c .before .before .set-flow .kept .0 ∙ c .before .before .before .before .before .before .loop .inv .2, rw (c .before .before .set-flow .ensures) (store-more (λ k a. FilledAt (net (c .before .before .before .before .before .before .before .before .before .before .args .arcs .now) (length (c .before .before .before .before .before .before .before .before .before .before .args .flows .now))) (at (potentials (c .before .before .before .before .before .before .before .before .before .before .args .nodes .now))) k a) (c .before .before .before .before .before .before .loop .flows) (c .before .before .before .before .before .before .loop .i) (c .before .before .before .before .first-flow .result) (omega (arith, c .before .before .before .before .before .before .loop .inv .1, c .before .before .before .before .before .before .loop .inv .2, c .before .before .before .before .before .loop-test .taken)) (c .before .before .before .before .before .before .loop .inv .3) (c .before .before .before .before .first-flow .ensures)))
+loop-again c =
+    let start = c .before .before .before .before .before .before .before .before .before .before in
+    let loop = c .before .before .before .before .before .before .loop in
+    let loop-test = c .before .before .before .before .before .loop-test in
+    let first-flow = c .before .before .before .before .first-flow in
+    let set-flow = c .before .before .set-flow in
+    (omega (arith, loop-test .taken), loop .inv .1, set-flow .kept .0 ∙ loop .inv .2,
+    rw (set-flow .ensures)
+    (store-more
+    (λ k a. FilledAt (net (start .args .arcs .now) (length (start .args .flows .now)))
+    (at (potentials (start .args .nodes .now))) k a)
+    (loop .flows) (loop .i) (first-flow .result) (omega (arith, loop .inv .1, loop .inv .2, loop-test .taken))
+    (loop .inv .3) (first-flow .ensures)))
 
 same-length : tie.Need-same-length Inv-loop μ-loop
 same-length c = c .before .loop .inv .2

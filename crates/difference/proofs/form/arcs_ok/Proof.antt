@@ -23,7 +23,10 @@ arc-ok-requires : tie.Need-arc-ok-requires Inv-loop μ-loop
 arc-ok-requires c κs = search needs
 
 returns : tie.Need-returns Inv-loop μ-loop
-returns c = λ all. tested-no (c .before .arc-ok .result) (c .before .arc-ok .ensures) (not-true (c .before .arc-ok .result) (c .if1 .taken)) (all .each (c .before .before .before .loop .i) (c .before .before .loop-test .taken))
+returns c =
+    λ all. tested-no (c .before .arc-ok .result) (c .before .arc-ok .ensures)
+    (not-true (c .before .arc-ok .result) (c .if1 .taken))
+    (all .each (c .before .before .before .loop .i) (c .before .before .loop-test .taken))
 
 add-i : tie.Need-add-i Inv-loop μ-loop
 add-i c = search needs
@@ -32,7 +35,11 @@ loop-less : tie.Need-loop-less Inv-loop μ-loop
 loop-less c = search needs
 
 loop-again : tie.Need-loop-again Inv-loop μ-loop
-loop-again c = (omega arith, below-more _ _ (c .before .before .before .loop .inv .1) (tested-yes (c .before .arc-ok .result) (c .before .arc-ok .ensures) (not-false (c .before .arc-ok .result) (c .if1 .left))))
+loop-again c =
+    (omega arith,
+    below-more _ _ (c .before .before .before .loop .inv .1)
+    (tested-yes (c .before .arc-ok .result) (c .before .arc-ok .ensures)
+    (not-false (c .before .arc-ok .result) (c .if1 .left))))
 
 returns-2 : tie.Need-returns-2 Inv-loop μ-loop
 returns-2 c = record { each = λ i l. c .before .loop .inv .1 i (omega (arith, c .loop-test .left)) }

@@ -24,7 +24,10 @@ arcs-ok-requires : tie.Need-arcs-ok-requires
 arcs-ok-requires c κs = search needs
 
 returns-5 : tie.Need-returns-5
-returns-5 c = tested-map (λ a. record { room = omega arith; some = omega arith; nodes = omega arith; few = omega arith; arc-in = a .each }) (λ w. record { each = w .arc-in }) (c .arcs-ok .result) (c .arcs-ok .ensures)
+returns-5 c =
+    tested-map
+    (λ a. record { room = omega arith; some = omega arith; nodes = omega arith; few = omega arith; arc-in = a .each })
+    (λ w. record { each = w .arc-in }) (c .arcs-ok .result) (c .arcs-ok .ensures)
 
 pub well-formed-spec : {M : Type 1} → statement M
 well-formed-spec =

@@ -17,7 +17,12 @@ same-length : tie.Need-same-length
 same-length c = search needs
 
 returns : tie.Need-returns
-returns c = arc-raised (c .before .before .before .before .before .before .before .before .before .before .before .args .i) (c .before .before .before .before .before .before .before .raise-tail .result) (c .before .before .before .raise-head .result) (c .both .result) (c .before .before .before .before .before .before .before .raise-tail .ensures) (c .before .before .before .raise-head .ensures) (c .both .ensures)
+returns c =
+    let start = c .before .before .before .before .before .before .before .before .before .before .before in
+    let raise-tail = c .before .before .before .before .before .before .before .raise-tail in
+    let raise-head = c .before .before .before .raise-head in
+    arc-raised (start .args .i) (raise-tail .result) (raise-head .result) (c .both .result) (raise-tail .ensures)
+    (raise-head .ensures) (c .both .ensures)
 
 pub raise-arc-spec : {M : Type 1} → statement M
 raise-arc-spec =

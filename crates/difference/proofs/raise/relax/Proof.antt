@@ -62,7 +62,12 @@ same-length : tie.Need-same-length
 same-length c = search needs
 
 returns-4 : tie.Need-returns-4
-returns-4 c = (ap (λ (x : ℕ). set (c .before .before .before .before .before .before .before .before .args .values .now) (c .before .before .before .before .before .before .before .before .args .to) (x + c .before .before .before .before .before .before .before .before .args .a - c .before .before .before .before .before .before .before .before .args .b)) (c .before .before .before .before .before .wide .ensures .0), omega arith, omega arith, omega arith)
+returns-4 c =
+    let start = c .before .before .before .before .before .before .before .before in
+    let wide = c .before .before .before .before .before .wide in
+    (ap (λ (x : ℕ). set (start .args .values .now) (start .args .to) (x + start .args .a - start .args .b))
+    (wide .ensures .0),
+    omega arith, omega arith, omega arith)
 
 pub relax-spec : {M : Type 1} → statement M
 relax-spec =

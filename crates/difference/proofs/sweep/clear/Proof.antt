@@ -10,7 +10,8 @@ use Rattle.difference.proofs.sweep.clear.Statement.{statement}
 use Rattle.difference.proofs.sweep.clear.Tie as tie
 
 abbrev Inv-loop : tie.InvT-loop
-Inv-loop values₀ u₀ values u = (u ≤ length values₀) × (length values ≡ length values₀) × ((k : ℕ) → k < u → getD values k 0 ≡ 0)
+Inv-loop values₀ u₀ values u =
+    (u ≤ length values₀) × (length values ≡ length values₀) × ((k : ℕ) → k < u → getD values k 0 ≡ 0)
 
 abbrev μ-loop : tie.MeasureT-loop
 μ-loop values₀ u₀ values u = length values₀ - u
@@ -31,7 +32,9 @@ loop-less : tie.Need-loop-less Inv-loop μ-loop
 loop-less c = search needs
 
 loop-again : tie.Need-loop-again Inv-loop μ-loop
-loop-again c = (omega arith, search needs, zeros-more (c .before .loop .values) (c .before .loop .u) (omega arith) (c .before .loop .inv .2))
+loop-again c =
+    (omega arith, search needs,
+    zeros-more (c .before .loop .values) (c .before .loop .u) (omega arith) (c .before .loop .inv .2))
 
 same-length : tie.Need-same-length Inv-loop μ-loop
 same-length c = search needs

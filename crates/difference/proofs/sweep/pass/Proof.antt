@@ -31,7 +31,13 @@ loop-less : tie.Need-loop-less Inv-loop μ-loop
 loop-less c = search needs
 
 loop-again : tie.Need-loop-again Inv-loop μ-loop
-loop-again c = goes-on (c .before .before .before .before .before .before .before .loop .inv) (c .before .before .before .before .before .before .loop-test .taken) (c .before .before .before .before .before .turned .result) (c .before .before .before .before .before .turned .ensures .0) (c .before .before .before .raise-arc .last .1 .1 .1 .0) (c .before .before .before .raise-arc .result) (c .both .result) (c .before .before .before .raise-arc .ensures) (c .both .ensures)
+loop-again c =
+    let loop = c .before .before .before .before .before .before .before .loop in
+    let loop-test = c .before .before .before .before .before .before .loop-test in
+    let turned = c .before .before .before .before .before .turned in
+    let raise-arc = c .before .before .before .raise-arc in
+    goes-on (loop .inv) (loop-test .taken) (turned .result) (turned .ensures .0) (raise-arc .last .1 .1 .1 .0)
+    (raise-arc .result) (c .both .result) (raise-arc .ensures) (c .both .ensures)
 
 same-length : tie.Need-same-length Inv-loop μ-loop
 same-length c = c .before .loop .inv .stepped .risen .size

@@ -20,7 +20,10 @@ same-length-2 : tie.Need-same-length-2
 same-length-2 c = search needs
 
 returns-2 : tie.Need-returns-2
-returns-2 c = (rw (c .before .before .before .before .if1 .left) at (c .before .before .before .before .before .before .before .sweep .ensures), c .before .before .clear .ensures)
+returns-2 c =
+    let sweep = c .before .before .before .before .before .before .before .sweep in
+    let if1 = c .before .before .before .before .if1 in
+    (rw (if1 .left) at (sweep .ensures), c .before .before .clear .ensures)
 
 pub run-spec : {M : Type 1} → statement M
 run-spec =

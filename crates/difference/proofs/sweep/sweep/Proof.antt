@@ -19,7 +19,10 @@ clear-requires : tie.Need-clear-requires Inv-loop μ-loop
 clear-requires c κs = search needs
 
 loop-holds : tie.Need-loop-holds Inv-loop μ-loop
-loop-holds c = begins (c .before .before .clear .last .0) refl (rw (c .before .before .clear .kept .0) (c .before .before .before .before .before .before .pre)) (c .before .before .clear .ensures)
+loop-holds c =
+    let start = c .before .before .before .before .before .before in
+    let clear = c .before .before .clear in
+    begins (clear .last .0) refl (rw (clear .kept .0) (start .pre)) (clear .ensures)
 
 pass-requires : tie.Need-pass-requires Inv-loop μ-loop
 pass-requires c κs = c .before .before .loop .inv .ready
@@ -31,7 +34,11 @@ same-length : tie.Need-same-length Inv-loop μ-loop
 same-length c = search needs
 
 returns : tie.Need-returns Inv-loop μ-loop
-returns c = rw (← c .before .before .before .before .before .before .before .before .before .before .clear .kept .0) (solved (c .before .before .before .before .before .before .before .loop .inv) (c .before .before .before .before .pass .last .1 .1 .1 .0) (rw (c .enum-told .given .1) at (c .before .before .before .before .pass .ensures)))
+returns c =
+    let clear = c .before .before .before .before .before .before .before .before .before .before .clear in
+    let loop = c .before .before .before .before .before .before .before .loop in
+    let pass = c .before .before .before .before .pass in
+    rw (← clear .kept .0) (solved (loop .inv) (pass .last .1 .1 .1 .0) (rw (c .enum-told .given .1) at (pass .ensures)))
 
 enum-told-2 : tie.Need-enum-told-2 Inv-loop μ-loop
 enum-told-2 c = search needs
@@ -43,7 +50,11 @@ same-length-2 : tie.Need-same-length-2 Inv-loop μ-loop
 same-length-2 c = search needs
 
 returns-2 : tie.Need-returns-2 Inv-loop μ-loop
-returns-2 c = rw (← c .before .before .before .before .before .before .before .before .before .before .clear .kept .0) (stops (c .before .before .before .before .before .before .before .loop .inv) (c .before .before .before .before .pass .last .1 .1 .1 .0) (rw (c .enum-told3 .given .1) at (c .before .before .before .before .pass .ensures)))
+returns-2 c =
+    let clear = c .before .before .before .before .before .before .before .before .before .before .clear in
+    let loop = c .before .before .before .before .before .before .before .loop in
+    let pass = c .before .before .before .before .pass in
+    rw (← clear .kept .0) (stops (loop .inv) (pass .last .1 .1 .1 .0) (rw (c .enum-told3 .given .1) at (pass .ensures)))
 
 add-k : tie.Need-add-k Inv-loop μ-loop
 add-k c = search needs
@@ -52,13 +63,18 @@ loop-less : tie.Need-loop-less Inv-loop μ-loop
 loop-less c = search needs
 
 loop-again : tie.Need-loop-again Inv-loop μ-loop
-loop-again c = changed (c .before .before .before .before .before .before .before .loop .inv) (c .before .before .before .before .pass .last .1 .1 .1 .0) (rw (c .enum-told2 .given .1) at (c .before .before .before .before .pass .ensures))
+loop-again c =
+    let loop = c .before .before .before .before .before .before .before .loop in
+    let pass = c .before .before .before .before .pass in
+    changed (loop .inv) (pass .last .1 .1 .1 .0) (rw (c .enum-told2 .given .1) at (pass .ensures))
 
 same-length-3 : tie.Need-same-length-3 Inv-loop μ-loop
 same-length-3 c = search needs
 
 returns-3 : tie.Need-returns-3 Inv-loop μ-loop
-returns-3 c = rw (← c .before .before .before .before .clear .kept .0) (over (c .before .loop .inv) (c .loop-test .left))
+returns-3 c =
+    let clear = c .before .before .before .before .clear in
+    rw (← clear .kept .0) (over (c .before .loop .inv) (c .loop-test .left))
 
 pub sweep-spec : {M : Type 1} → statement M
 sweep-spec =

@@ -17,7 +17,10 @@ sub-result : tie.Need-sub-result
 sub-result c = omega (arith, c .before .pre .0 .least (c .before .args .v) (c .before .pre .1))
 
 cast-result : tie.Need-cast-result
-cast-result c = omega (arith, c .before .pre .0 .least (c .before .args .v) (c .before .pre .1), c .before .pre .0 .small (c .before .args .v) (c .before .pre .1))
+cast-result c =
+    omega
+    (arith, c .before .pre .0 .least (c .before .args .v) (c .before .pre .1),
+    c .before .pre .0 .small (c .before .args .v) (c .before .pre .1))
 
 returns : tie.Need-returns
 returns c = search needs

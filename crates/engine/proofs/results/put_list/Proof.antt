@@ -18,13 +18,15 @@ use Rattle.engine.proofs.results.put_list.Statement.{statement}
 use Rattle.engine.proofs.results.put_list.Tie as tie
 
 abbrev Inv-loop : tie.InvT-loop
-Inv-loop flows list₀ i₀ list i = (i ≤ length flows) × (list ≡ filled i (number-at flows) list₀) × (length list ≡ length list₀)
+Inv-loop flows list₀ i₀ list i =
+    (i ≤ length flows) × (list ≡ filled i (number-at flows) list₀) × (length list ≡ length list₀)
 
 abbrev μ-loop : tie.MeasureT-loop
 μ-loop flows list₀ i₀ list i = length flows - i
 
 loop-holds : tie.Need-loop-holds Inv-loop μ-loop
-loop-holds c = (omega arith, sym (filled-none (number-at (c .before .args .flows .now)) (c .before .args .list .now)), refl)
+loop-holds c =
+    (omega arith, sym (filled-none (number-at (c .before .args .flows .now)) (c .before .args .list .now)), refl)
 
 mul-signed : tie.Need-mul-signed Inv-loop μ-loop
 mul-signed c = search needs
@@ -49,16 +51,19 @@ loop-less c = omega arith
 
 loop-again : tie.Need-loop-again Inv-loop μ-loop
 loop-again c =
-    let flows : List ℕ = c .before .before .before .before .before .args .flows .now in
-    let old : List ℤ = c .before .before .before .before .before .args .list .now in
-    let i : ℕ = c .before .before .before .loop .i in
+    let start = c .before .before .before .before .before in
+    let loop = c .before .before .before .loop in
+    let flows : List ℕ = start .args .flows .now in
+    let old : List ℤ = start .args .list .now in
+    let i : ℕ = loop .i in
     let r : ℤ = c .signed .result in
     let is : r ≡ number-at flows i = c .signed .ensures in
-    let fits : SFits w32 r = size-fits (omega (arith, ap natAbs is, number-size (getD flows i 0) (c .before .before .before .before .before .pre .0 .small i (omega arith)))) in (
-      omega arith,
-      filled-store (pos 0) i (number-at flows) old (c .before .before .before .loop .list) (toZ w32 (ofZ w32 r)) (c .before .before .before .loop .inv .1) (toZ-ofZ fits ∙ is) (omega (arith, c .before .before .before .before .before .pre .1)),
-      length-set (c .before .before .before .loop .list) i (toZ w32 (ofZ w32 r)) ∙ c .before .before .before .loop .inv .2,
-    )
+    let fits : SFits w32 r =
+        size-fits (omega (arith, ap natAbs is, number-size (getD flows i 0) (start .pre .0 .small i (omega arith)))) in
+    (omega arith,
+    filled-store (pos 0) i (number-at flows) old (loop .list) (toZ w32 (ofZ w32 r)) (loop .inv .1) (toZ-ofZ fits ∙ is)
+    (omega (arith, start .pre .1)),
+    length-set (loop .list) i (toZ w32 (ofZ w32 r)) ∙ loop .inv .2, )
 
 same-length : tie.Need-same-length Inv-loop μ-loop
 same-length c = search needs

@@ -11,13 +11,16 @@ use Rattle.engine.proofs.results.put_places.Statement.{statement}
 use Rattle.engine.proofs.results.put_places.Tie as tie
 
 abbrev Inv-loop : tie.InvT-loop
-Inv-loop nodes count places₀ v₀ places v = (v ≤ count) × (places ≡ filled v (place-at nodes) places₀) × (length places ≡ length places₀)
+Inv-loop nodes count places₀ v₀ places v =
+    (v ≤ count) × (places ≡ filled v (place-at nodes) places₀) × (length places ≡ length places₀)
 
 abbrev μ-loop : tie.MeasureT-loop
 μ-loop nodes count places₀ v₀ places v = count - v
 
 loop-holds : tie.Need-loop-holds Inv-loop μ-loop
-loop-holds c = (omega arith, sym (filled-none (place-at (c .before .before .args .nodes .now)) (c .before .before .args .places .now)), refl)
+loop-holds c =
+    (omega arith,
+    sym (filled-none (place-at (c .before .before .args .nodes .now)) (c .before .before .args .places .now)), refl)
 
 coordinate-requires : tie.Need-coordinate-requires Inv-loop μ-loop
 coordinate-requires c κs = search needs
@@ -36,12 +39,14 @@ loop-less c = omega arith
 
 loop-again : tie.Need-loop-again Inv-loop μ-loop
 loop-again c =
-    let f : ℕ → ℕ = place-at (c .before .before .before .before .before .args .nodes .now) in
-    let v : ℕ = c .before .before .loop .v in (
-      omega arith,
-      filled-store 0 v f (c .before .before .before .before .before .args .places .now) (c .before .before .loop .places) (c .coordinate .result) (c .before .before .loop .inv .1) (c .coordinate .ensures) (omega (arith, c .before .before .before .before .before .pre .1)),
-      length-set (c .before .before .loop .places) v (c .coordinate .result) ∙ c .before .before .loop .inv .2,
-    )
+    let start = c .before .before .before .before .before in
+    let loop = c .before .before .loop in
+    let f : ℕ → ℕ = place-at (start .args .nodes .now) in
+    let v : ℕ = loop .v in
+    (omega arith,
+    filled-store 0 v f (start .args .places .now) (loop .places) (c .coordinate .result) (loop .inv .1)
+    (c .coordinate .ensures) (omega (arith, start .pre .1)),
+    length-set (loop .places) v (c .coordinate .result) ∙ loop .inv .2, )
 
 same-length : tie.Need-same-length Inv-loop μ-loop
 same-length c = search needs

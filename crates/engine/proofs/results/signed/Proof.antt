@@ -16,11 +16,13 @@ cast-result : tie.Need-cast-result
 cast-result c = search needs
 
 sub-result : tie.Need-sub-result
-sub-result c = subst (λ (a : ℤ). SFits w32 (a -ℤ pos flow-zero)) (sym (toZ-pos w32 {n = c .args .x} (omega (arith, c .pre))))
+sub-result c =
+    subst (λ (a : ℤ). SFits w32 (a -ℤ pos flow-zero)) (sym (toZ-pos w32 {n = c .args .x} (omega (arith, c .pre))))
     (size-fits (omega (arith, number-size (c .args .x) (c .pre))))
 
 returns : tie.Need-returns
-returns c = toZ-ofZ (sub-result c) ∙ ap (λ (a : ℤ). a -ℤ pos flow-zero) (toZ-pos w32 {n = c .args .x} (omega (arith, c .pre)))
+returns c =
+    toZ-ofZ (sub-result c) ∙ ap (λ (a : ℤ). a -ℤ pos flow-zero) (toZ-pos w32 {n = c .args .x} (omega (arith, c .pre)))
 
 pub signed-spec : {M : Type 1} → statement M
 signed-spec = tie.close (tie.spec cast-result sub-result returns)

@@ -18,7 +18,17 @@ same-length : tie.Need-same-length
 same-length c = search needs
 
 returns : tie.Need-returns
-returns c = none-drawn (c .before .before .before .before .before .before .before .before .before .before .args .places .now) (c .before .before .before .before .before .before .before .before .before .before .args .list .now) (c .refused .ensures) (c .before .before .before .before .before .before .before .before .before .before .pre .1 .places-enough) (c .before .before .before .before .before .before .before .before .before .before .pre .1 .list-enough) (not-started (c .before .before .before .before .before .before .before .before .before .before .args .arcs .now) (c .before .before .before .before .before .before .before .before .before .before .args .counts .arcs) (c .before .before .before .before .before .before .before .before .before .before .args .counts .nodes + 1) (c .before .before .before .before .start .last .1 .1 .0) (c .before .before .before .before .start .result) (c .before .before .before .before .start .ensures) (not-true (c .before .before .before .before .start .result) (c .before .if1 .taken)))
+returns c =
+    let start = c .before .before .before .before .start in
+    none-drawn (c .before .before .before .before .before .before .before .before .before .before .args .places .now)
+    (c .before .before .before .before .before .before .before .before .before .before .args .list .now)
+    (c .refused .ensures)
+    (c .before .before .before .before .before .before .before .before .before .before .pre .1 .places-enough)
+    (c .before .before .before .before .before .before .before .before .before .before .pre .1 .list-enough)
+    (not-started (c .before .before .before .before .before .before .before .before .before .before .args .arcs .now)
+    (c .before .before .before .before .before .before .before .before .before .before .args .counts .arcs)
+    (c .before .before .before .before .before .before .before .before .before .before .args .counts .nodes + 1)
+    (start .last .1 .1 .0) (start .result) (start .ensures) (not-true (start .result) (c .before .if1 .taken)))
 
 slice-aggregate-solve : tie.Need-slice-aggregate-solve
 slice-aggregate-solve c = search needs
@@ -28,18 +38,23 @@ solve-requires c κs = search needs
 
 finish-requires : tie.Need-finish-requires
 finish-requires c κs =
-    let solved = solved-from {c = c .before .before .before .before .before .before .before .before .before .before .before .before .before .before .before .before .before .before .before .before .before .before .args .counts} (c .before .before .before .before .before .before .before .before .before .before .before .before .before .before .before .before .before .before .before .before .before .before .args .flows .now) (c .before .before .before .before .before .before .before .before .before .before .before .before .before .before .before .before .start .last .1 .1 .0) _ _ _ _ (c .before .before .before .before .before .before .before .before .before .solve .result) (c .before .before .before .before .before .before .before .before .before .before .before .before .before .before .before .before .before .before .before .before .before .before .pre .1 .flows-are) (c .before .before .before .before .before .before .before .before .before .before .before .before .before .before .before .before .start .kept .1 .1 .0 ∙ c .before .before .before .before .before .before .before .before .before .before .before .before .before .before .before .before .before .before .before .before .before .before .pre .1 .nodes-are) (is-started (c .before .before .before .before .before .before .before .before .before .before .before .before .before .before .before .before .before .before .before .before .before .before .args .arcs .now) (c .before .before .before .before .before .before .before .before .before .before .before .before .before .before .before .before .before .before .before .before .before .before .args .counts .arcs) (c .before .before .before .before .before .before .before .before .before .before .before .before .before .before .before .before .before .before .before .before .before .before .args .counts .nodes + 1) (c .before .before .before .before .before .before .before .before .before .before .before .before .before .before .before .before .start .last .1 .1 .0) (c .before .before .before .before .before .before .before .before .before .before .before .before .before .before .before .before .start .result) (c .before .before .before .before .before .before .before .before .before .before .before .before .before .before .before .before .start .ensures) (not-false (c .before .before .before .before .before .before .before .before .before .before .before .before .before .before .before .before .start .result) (c .before .before .before .before .before .before .before .before .before .before .before .before .before .if1 .left))) (c .before .before .before .before .before .before .before .before .before .solve .ensures) in (
-      c .before .before .before .before .before .before .before .before .before .before .before .before .before .before .before .before .before .before .before .before .before .before .pre .0,
-      (
-        record {
-          flows-are = solved .flows-size ∙ c .before .before .before .before .before .before .before .before .before .before .before .before .before .before .before .before .before .before .before .before .before .before .pre .1 .flows-are;
-          nodes-are = solved .nodes-size ∙ (c .before .before .before .before .before .before .before .before .before .before .before .before .before .before .before .before .start .kept .1 .1 .0 ∙ c .before .before .before .before .before .before .before .before .before .before .before .before .before .before .before .before .before .before .before .before .before .before .pre .1 .nodes-are);
-          places-enough = c .before .before .before .before .before .before .before .before .before .before .before .before .before .before .before .before .before .before .before .before .before .before .pre .1 .places-enough;
-          list-enough = c .before .before .before .before .before .before .before .before .before .before .before .before .before .before .before .before .before .before .before .before .before .before .pre .1 .list-enough;
-        },
-        solved .settled,
-      ),
-    )
+    let entry = c .before .before .before .before .before .before .before .before .before .before .before .before .before .before .before .before .before .before .before .before .before .before in
+    let start = c .before .before .before .before .before .before .before .before .before .before .before .before .before .before .before .before .start in
+    let if1 = c .before .before .before .before .before .before .before .before .before .before .before .before .before .if1 in
+    let solve = c .before .before .before .before .before .before .before .before .before .solve in
+    let solved =
+        solved-from {c = entry .args .counts} (entry .args .flows .now) (start .last .1 .1 .0) _ _ _ _ (solve .result)
+        (entry .pre .1 .flows-are) (start .kept .1 .1 .0 ∙ entry .pre .1 .nodes-are)
+        (is-started (entry .args .arcs .now) (entry .args .counts .arcs) (entry .args .counts .nodes + 1)
+        (start .last .1 .1 .0) (start .result) (start .ensures) (not-false (start .result) (if1 .left)))
+        (solve .ensures) in
+    (entry .pre .0,
+    (record {
+      flows-are = solved .flows-size ∙ entry .pre .1 .flows-are;
+      nodes-are = solved .nodes-size ∙ (start .kept .1 .1 .0 ∙ entry .pre .1 .nodes-are);
+      places-enough = entry .pre .1 .places-enough;
+      list-enough = entry .pre .1 .list-enough;
+    }, solved .settled))
 
 same-length-2 : tie.Need-same-length-2
 same-length-2 c = search needs

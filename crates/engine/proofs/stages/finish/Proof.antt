@@ -11,10 +11,18 @@ mul-end : tie.Need-mul-end
 mul-end c = omega (arith, edges-few (c .before .before .before .before .before .pre .0))
 
 put-places-requires : tie.Need-put-places-requires
-put-places-requires c κs = (places-fit (c .before .before .before .before .before .before .pre .0) (c .before .before .before .before .before .before .args .flows .now) (c .before .before .before .before .before .before .args .nodes .now) (c .before .before .before .before .before .before .pre .1 .0 .flows-are) (c .before .before .before .before .before .before .pre .1 .0 .nodes-are) (c .before .before .before .before .before .before .pre .1 .1), c .before .before .before .before .before .before .pre .1 .0 .places-enough)
+put-places-requires c κs =
+    let start = c .before .before .before .before .before .before in
+    (places-fit (start .pre .0) (start .args .flows .now) (start .args .nodes .now) (start .pre .1 .0 .flows-are)
+    (start .pre .1 .0 .nodes-are) (start .pre .1 .1),
+    start .pre .1 .0 .places-enough)
 
 put-list-requires : tie.Need-put-list-requires
-put-list-requires c κs = (flows-fit (c .before .before .before .before .before .before .before .before .before .before .pre .0) (c .before .before .before .before .before .before .before .before .before .before .args .flows .now) (c .before .before .before .before .before .before .before .before .before .before .args .nodes .now) (c .before .before .before .before .before .before .before .before .before .before .pre .1 .0 .flows-are) (c .before .before .before .before .before .before .before .before .before .before .pre .1 .0 .nodes-are) (c .before .before .before .before .before .before .before .before .before .before .pre .1 .1), omega (arith, c .before .before .before .before .before .before .before .before .before .before .pre .1 .0 .flows-are, c .before .before .before .before .before .before .before .before .before .before .pre .1 .0 .list-enough))
+put-list-requires c κs =
+    let start = c .before .before .before .before .before .before .before .before .before .before in
+    (flows-fit (start .pre .0) (start .args .flows .now) (start .args .nodes .now) (start .pre .1 .0 .flows-are)
+    (start .pre .1 .0 .nodes-are) (start .pre .1 .1),
+    omega (arith, start .pre .1 .0 .flows-are, start .pre .1 .0 .list-enough))
 
 sub-total : tie.Need-sub-total
 sub-total c = search needs
@@ -23,7 +31,9 @@ part-total-start : tie.Need-part-total-start
 part-total-start c = search needs
 
 part-total-end : tie.Need-part-total-end
-part-total-end c = edges-there (c .before .before .before .before .before .before .before .before .before .before .before .before .pre .0)
+part-total-end c =
+    let start = c .before .before .before .before .before .before .before .before .before .before .before .before in
+    edges-there (start .pre .0)
 
 sub-total-2 : tie.Need-sub-total-2
 sub-total-2 c = search needs
@@ -44,7 +54,14 @@ same-length-2 : tie.Need-same-length-2
 same-length-2 c = search needs
 
 returns : tie.Need-returns
-returns c = λ h. returned h (c .before .before .before .before .before .before .before .before .before .before .before .before .before .before .before .before .args .flows .now) (c .before .before .before .before .before .before .before .before .before .before .before .before .before .before .before .before .args .nodes .now) (c .before .before .before .before .before .before .before .before .before .before .before .before .before .before .before .before .pre .1 .0 .flows-are) (c .before .before .before .before .before .before .before .before .before .before .before .before .before .before .before .before .pre .1 .0 .nodes-are) (c .before .before .before .before .before .before .before .before .before .before .before .before .before .before .before .before .pre .1 .1) (c .before .before .before .before .before .before .before .before .before .before .before .before .before .before .before .before .args .places .now) _ (c .before .before .before .before .before .before .before .before .before .before .before .before .before .before .before .before .args .list .now) _ (c .before .before .before .before .before .before .before .before .before .before .before .before .before .before .before .before .pre .1 .0 .places-enough) (c .before .before .before .before .before .before .before .before .before .before .before .before .before .before .before .before .pre .1 .0 .list-enough) (c .before .before .before .before .before .before .before .before .before .put-places .ensures) (c .before .before .before .before .before .put-list .ensures) _ (c .total .ensures)
+returns c =
+    let start = c .before .before .before .before .before .before .before .before .before .before .before .before .before .before .before .before in
+    let put-places = c .before .before .before .before .before .before .before .before .before .put-places in
+    let put-list = c .before .before .before .before .before .put-list in
+    λ h. returned h (start .args .flows .now) (start .args .nodes .now) (start .pre .1 .0 .flows-are)
+    (start .pre .1 .0 .nodes-are) (start .pre .1 .1) (start .args .places .now) _ (start .args .list .now) _
+    (start .pre .1 .0 .places-enough) (start .pre .1 .0 .list-enough) (put-places .ensures) (put-list .ensures) _
+    (c .total .ensures)
 
 pub finish-spec : {M : Type 1} → statement M
 finish-spec =

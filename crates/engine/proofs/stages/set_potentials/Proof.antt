@@ -12,7 +12,8 @@ use Rattle.engine.proofs.stages.set_potentials.Statement.{statement}
 use Rattle.engine.proofs.stages.set_potentials.Tie as tie
 
 abbrev Inv-loop : tie.InvT-loop
-Inv-loop values count nodes₀ v₀ nodes v = (v ≤ count) × (nodes ≡ potentials-to v values nodes₀) × (length nodes ≡ length nodes₀)
+Inv-loop values count nodes₀ v₀ nodes v =
+    (v ≤ count) × (nodes ≡ potentials-to v values nodes₀) × (length nodes ≡ length nodes₀)
 
 abbrev μ-loop : tie.MeasureT-loop
 μ-loop values count nodes₀ v₀ nodes v = count - v
@@ -43,13 +44,14 @@ loop-less c = omega arith
 
 loop-again : tie.Need-loop-again Inv-loop μ-loop
 loop-again c =
-    let values : List ℕ = c .before .before .before .args .values .now in
-    let old : List ℕ = c .before .before .before .args .nodes .now in
-    let v : ℕ = c .before .before .loop .v in (
-      omega arith,
-      ap (λ (l : List ℕ). set l (node-stride * v) (getD values v 0)) (c .before .before .loop .inv .1) ∙ sym (potentials-next v values old),
-      length-set (c .before .before .loop .nodes) (node-stride * v) (getD values v 0) ∙ c .before .before .loop .inv .2,
-    )
+    let start = c .before .before .before in
+    let loop = c .before .before .loop in
+    let values : List ℕ = start .args .values .now in
+    let old : List ℕ = start .args .nodes .now in
+    let v : ℕ = loop .v in
+    (omega arith,
+    ap (λ (l : List ℕ). set l (node-stride * v) (getD values v 0)) (loop .inv .1) ∙ sym (potentials-next v values old),
+    length-set (loop .nodes) (node-stride * v) (getD values v 0) ∙ loop .inv .2, )
 
 same-length : tie.Need-same-length Inv-loop μ-loop
 same-length c = search needs

@@ -19,7 +19,11 @@ slice-aggregate-set-potentials : tie.Need-slice-aggregate-set-potentials
 slice-aggregate-set-potentials c = search needs
 
 set-potentials-requires : tie.Need-set-potentials-requires
-set-potentials-requires c κs = (omega (arith, c .before .before .before .before .before .before .before .before .pre .1), omega (arith, nodes-few (c .before .before .before .before .before .before .before .before .pre .0), c .before .before .before .least .kept .1 .1 .1 .0), omega (arith, nodes-few (c .before .before .before .before .before .before .before .before .pre .0)))
+set-potentials-requires c κs =
+    let start = c .before .before .before .before .before .before .before .before in
+    (omega (arith, start .pre .1),
+    omega (arith, nodes-few (start .pre .0), c .before .before .before .least .kept .1 .1 .1 .0),
+    omega (arith, nodes-few (start .pre .0)))
 
 found-requires : tie.Need-found-requires
 found-requires c κs = search needs
@@ -28,7 +32,12 @@ same-length : tie.Need-same-length
 same-length c = search needs
 
 returns : tie.Need-returns
-returns c = started-so (c .before .before .before .before .before .before .before .before .before .before .before .before .pre .0) _ _ (c .before .before .before .before .before .before .before .before .before .before .before .before .args .nodes .now) _ (c .before .before .before .before .before .before .before .least .result) (c .found .result) (omega (arith, nodes-few (c .before .before .before .before .before .before .before .before .before .before .before .before .pre .0))) (c .before .before .before .before .before .before .before .least .kept .1 .1 .1 .0) (c .before .before .before .before .before .before .before .before .before .before .before .before .pre .1) (c .before .before .before .before .before .before .before .least .ensures) (c .before .before .before .set-potentials .ensures) (c .found .ensures)
+returns c =
+    let start = c .before .before .before .before .before .before .before .before .before .before .before .before in
+    let least = c .before .before .before .before .before .before .before .least in
+    started-so (start .pre .0) _ _ (start .args .nodes .now) _ (least .result) (c .found .result)
+    (omega (arith, nodes-few (start .pre .0))) (least .kept .1 .1 .1 .0) (start .pre .1) (least .ensures)
+    (c .before .before .before .set-potentials .ensures) (c .found .ensures)
 
 pub start-spec : {M : Type 1} → statement M
 start-spec =

@@ -21,13 +21,17 @@ add-t9 : tie.Need-add-t9
 add-t9 c = search needs
 
 returns : tie.Need-returns
-returns c = rw (list-value (now (c .before .before .before .args .numbers)) (c .before .before .before .args .at) (omega arith))
+returns c =
+    let start = c .before .before .before in
+    rw (list-value (now (start .args .numbers)) (start .args .at) (omega arith))
 
 refuse-requires : tie.Need-refuse-requires
 refuse-requires c κs = search needs
 
 returns-2 : tie.Need-returns-2
-returns-2 c = ap item (c .refuse .ensures) ∙ sym (list-ended (now (c .before .before .before .args .numbers)) (c .before .before .before .args .at) (omega arith))
+returns-2 c =
+    let start = c .before .before .before in
+    ap item (c .refuse .ensures) ∙ sym (list-ended (now (start .args .numbers)) (start .args .at) (omega arith))
 
 pub list-number-spec : {M : Type 1} → statement M
 list-number-spec =

@@ -22,7 +22,8 @@ refuse-requires : tie.Need-refuse-requires Inv-loop μ-loop
 refuse-requires c κs = search needs
 
 returns : tie.Need-returns Inv-loop μ-loop
-returns c = ap item (c .refuse .ensures) ∙ reading-ended (c .before .before .before .loop .inv) (omega arith) (omega arith)
+returns c =
+    ap item (c .refuse .ensures) ∙ reading-ended (c .before .before .before .loop .inv) (omega arith) (omega arith)
 
 shared-slice-read-wide : tie.Need-shared-slice-read-wide Inv-loop μ-loop
 shared-slice-read-wide c = search needs
@@ -37,25 +38,50 @@ refuse-requires-2 : tie.Need-refuse-requires-2 Inv-loop μ-loop
 refuse-requires-2 c κs = search needs
 
 returns-2 : tie.Need-returns-2 Inv-loop μ-loop
-returns-2 c = ap item (c .refuse2 .ensures) ∙ reading-needless (c .before .before .before .before .before .before .before .before .loop .inv) (omega arith) (c .before .before .before .before .wide .result) (omega arith) (c .before .before .before .before .wide .ensures .0) (omega arith) (sym (c .before .before .needless .ensures) ∙ c .before .if3 .taken)
+returns-2 c =
+    let loop = c .before .before .before .before .before .before .before .before .loop in
+    let wide = c .before .before .before .before .wide in
+    ap item (c .refuse2 .ensures)
+    ∙ reading-needless (loop .inv) (omega arith) (wide .result) (omega arith) (wide .ensures .0) (omega arith)
+    (sym (c .before .before .needless .ensures) ∙ c .before .if3 .taken)
 
 mul-t14 : tie.Need-mul-t14 Inv-loop μ-loop
-mul-t14 c = omega (arith, weight-most (c .before .before .before .before .before .before .before .loop .inv) (omega arith), group-most (c .before .before .before .before .before .before .before .loop .inv) (omega arith) (c .before .before .before .wide .result) (omega arith))
+mul-t14 c =
+    let loop = c .before .before .before .before .before .before .before .loop in
+    omega
+    (arith, weight-most (loop .inv) (omega arith),
+    group-most (loop .inv) (omega arith) (c .before .before .before .wide .result) (omega arith))
 
 add-t15 : tie.Need-add-t15 Inv-loop μ-loop
-add-t15 c = omega (arith, c .before .before .before .before .before .before .before .loop .inv .below, weight-most (c .before .before .before .before .before .before .before .loop .inv) (omega arith), group-most (c .before .before .before .before .before .before .before .loop .inv) (omega arith) (c .before .before .before .wide .result) (omega arith))
+add-t15 c =
+    let loop = c .before .before .before .before .before .before .before .loop in
+    omega
+    (arith, loop .inv .below, weight-most (loop .inv) (omega arith),
+    group-most (loop .inv) (omega arith) (c .before .before .before .wide .result) (omega arith))
 
 add-t16 : tie.Need-add-t16 Inv-loop μ-loop
 add-t16 c = search needs
 
 returns-3 : tie.Need-returns-3 Inv-loop μ-loop
-returns-3 c = reading-value (c .before .before .before .before .before .before .before .loop .inv) (omega arith) (c .before .before .before .wide .result) (omega arith) (c .before .before .before .wide .ensures .0) (omega arith) (sym (c .before .needless .ensures) ∙ c .if3 .left)
+returns-3 c =
+    let loop = c .before .before .before .before .before .before .before .loop in
+    let wide = c .before .before .before .wide in
+    reading-value (loop .inv) (omega arith) (wide .result) (omega arith) (wide .ensures .0) (omega arith)
+    (sym (c .before .needless .ensures) ∙ c .if3 .left)
 
 mul-value : tie.Need-mul-value Inv-loop μ-loop
-mul-value c = omega (arith, weight-most (c .before .before .before .before .before .loop .inv) (omega arith), group-most (c .before .before .before .before .before .loop .inv) (omega arith) (c .before .wide .result - 128) (omega (arith, c .before .wide .ensures)))
+mul-value c =
+    let loop = c .before .before .before .before .before .loop in
+    omega
+    (arith, weight-most (loop .inv) (omega arith),
+    group-most (loop .inv) (omega arith) (c .before .wide .result - 128) (omega (arith, c .before .wide .ensures)))
 
 add-value : tie.Need-add-value Inv-loop μ-loop
-add-value c = omega (arith, c .before .before .before .before .before .loop .inv .below, weight-most (c .before .before .before .before .before .loop .inv) (omega arith), group-most (c .before .before .before .before .before .loop .inv) (omega arith) (c .before .wide .result - 128) (omega (arith, c .before .wide .ensures)))
+add-value c =
+    let loop = c .before .before .before .before .before .loop in
+    omega
+    (arith, loop .inv .below, weight-most (loop .inv) (omega arith),
+    group-most (loop .inv) (omega arith) (c .before .wide .result - 128) (omega (arith, c .before .wide .ensures)))
 
 mul-weight : tie.Need-mul-weight Inv-loop μ-loop
 mul-weight c = omega (arith, weight-most (c .before .before .before .before .before .loop .inv) (omega arith))
@@ -70,7 +96,10 @@ loop-less : tie.Need-loop-less Inv-loop μ-loop
 loop-less c = omega arith
 
 loop-again : tie.Need-loop-again Inv-loop μ-loop
-loop-again c = reading-next (c .before .before .before .before .before .loop .inv) (omega arith) (c .before .wide .result) (omega arith) (c .before .wide .ensures .0) (omega arith) (c .before .wide .ensures .1)
+loop-again c =
+    let loop = c .before .before .before .before .before .loop in
+    reading-next (loop .inv) (omega arith) (c .before .wide .result) (omega arith) (c .before .wide .ensures .0)
+    (omega arith) (c .before .wide .ensures .1)
 
 refuse-requires-3 : tie.Need-refuse-requires-3 Inv-loop μ-loop
 refuse-requires-3 c κs = search needs

@@ -14,16 +14,23 @@ abbrev μ-loop : tie.MeasureT-loop
 μ-loop bytes₀ at n rest₀ next₀ bytes rest next = rest
 
 loop-holds : tie.Need-loop-holds Inv-loop μ-loop
-loop-holds c = storing-begin (now (c .before .args .bytes)) (c .before .args .at) (c .before .args .n) (c .before .pre .0)
+loop-holds c =
+    storing-begin (now (c .before .args .bytes)) (c .before .args .at) (c .before .args .n) (c .before .pre .0)
 
 low-group-requires : tie.Need-low-group-requires Inv-loop μ-loop
 low-group-requires c κs = search needs
 
 slice-write-bytes : tie.Need-slice-write-bytes Inv-loop μ-loop
-slice-write-bytes c = omega (arith, c .before .before .loop .inv .same-length, c .before .before .before .before .pre .1, storing-room (c .before .before .loop .inv) (omega arith))
+slice-write-bytes c =
+    let start = c .before .before .before .before in
+    let loop = c .before .before .loop in
+    omega (arith, loop .inv .same-length, start .pre .1, storing-room (loop .inv) (omega arith))
 
 add-next : tie.Need-add-next Inv-loop μ-loop
-add-next c = omega (arith, c .before .before .loop .inv .same-length, c .before .before .before .before .pre .1, storing-room (c .before .before .loop .inv) (omega arith))
+add-next c =
+    let start = c .before .before .before .before in
+    let loop = c .before .before .loop in
+    omega (arith, loop .inv .same-length, start .pre .1, storing-room (loop .inv) (omega arith))
 
 loop-less : tie.Need-loop-less Inv-loop μ-loop
 loop-less c = omega arith
@@ -35,7 +42,10 @@ cast-bytes : tie.Need-cast-bytes Inv-loop μ-loop
 cast-bytes c = search needs
 
 slice-write-bytes-2 : tie.Need-slice-write-bytes-2 Inv-loop μ-loop
-slice-write-bytes-2 c = omega (arith, c .before .loop .inv .same-length, c .before .before .before .pre .1, stored-size (c .before .loop .inv) (omega arith))
+slice-write-bytes-2 c =
+    omega
+    (arith, c .before .loop .inv .same-length, c .before .before .before .pre .1,
+    stored-size (c .before .loop .inv) (omega arith))
 
 add-result : tie.Need-add-result Inv-loop μ-loop
 add-result c = omega (arith, c .before .before .before .pre .1, stored-size (c .before .loop .inv) (omega arith))

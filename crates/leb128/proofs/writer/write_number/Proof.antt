@@ -7,19 +7,27 @@ use Rattle.leb128.proofs.writer.write_number.Statement.{statement}
 use Rattle.leb128.proofs.writer.write_number.Tie as tie
 
 returns : tie.Need-returns
-returns c = no-form (now (c .before .before .args .bytes)) (c .before .before .args .at) (c .before .before .args .n) (omega arith)
+returns c =
+    no-form (now (c .before .before .args .bytes)) (c .before .before .args .at) (c .before .before .args .n)
+    (omega arith)
 
 number-size-requires : tie.Need-number-size-requires
 number-size-requires c κs = search needs
 
 returns-2 : tie.Need-returns-2
-returns-2 c = no-room (now (c .before .before .before .before .args .bytes)) (c .before .before .before .before .args .at) (c .before .before .before .before .args .n) (omega arith) (omega (arith, c .before .number-size .ensures))
+returns-2 c =
+    let start = c .before .before .before .before in
+    no-room (now (start .args .bytes)) (start .args .at) (start .args .n) (omega arith)
+    (omega (arith, c .before .number-size .ensures))
 
 sub-if3 : tie.Need-sub-if3
 sub-if3 c = search needs
 
 returns-3 : tie.Need-returns-3
-returns-3 c = no-room (now (c .before .before .before .before .before .args .bytes)) (c .before .before .before .before .before .args .at) (c .before .before .before .before .before .args .n) (omega arith) (omega (arith, c .before .before .number-size .ensures))
+returns-3 c =
+    let start = c .before .before .before .before .before in
+    no-room (now (start .args .bytes)) (start .args .at) (start .args .n) (omega arith)
+    (omega (arith, c .before .before .number-size .ensures))
 
 store-requires : tie.Need-store-requires
 store-requires c κs = search needs
@@ -28,7 +36,11 @@ same-length : tie.Need-same-length
 same-length c = search needs
 
 returns-4 : tie.Need-returns-4
-returns-4 c = next-place (now (c .before .before .before .before .before .before .before .before .before .args .bytes)) (c .before .before .before .before .before .before .before .before .before .args .at) (c .before .before .before .before .before .before .before .before .before .args .n) (omega arith) _ _ (omega (arith, c .before .before .before .before .before .before .number-size .ensures)) (c .before .before .store .ensures)
+returns-4 c =
+    let start = c .before .before .before .before .before .before .before .before .before in
+    let number-size = c .before .before .before .before .before .before .number-size in
+    next-place (now (start .args .bytes)) (start .args .at) (start .args .n) (omega arith) _ _
+    (omega (arith, number-size .ensures)) (c .before .before .store .ensures)
 
 pub write-number-spec : {M : Type 1} → statement M
 write-number-spec =

@@ -37,16 +37,26 @@ upward (pos n) h = tt
 upward (negsuc n) h = subst T h tt
 
 sub-result : tie.Need-sub-result
-sub-result c = let f = c .before .fits .n in rw (toZ-ofZ f) (turned-fits (c .before .args .n) (below f ∙ c .if1 .taken) f)
+sub-result c =
+    let f = c .before .fits .n in
+    rw (toZ-ofZ f) (turned-fits (c .before .args .n) (below f ∙ c .if1 .taken) f)
 
 cast-result : tie.Need-cast-result
-cast-result c = let f = c .before .fits .n in rw (toZ-ofZ f) (rw (turned-back (c .before .args .n) (below f ∙ c .if1 .taken) f) (tt, record { fits = omega (arith, f .sfits) }))
+cast-result c =
+    let f = c .before .fits .n in
+    rw (toZ-ofZ f)
+    (rw (turned-back (c .before .args .n) (below f ∙ c .if1 .taken) f) (tt, record { fits = omega (arith, f .sfits) }))
 
 add-result : tie.Need-add-result
-add-result c = let f = c .before .fits .n in rw (toZ-ofZ f) (rw (turned-back (c .before .args .n) (below f ∙ c .if1 .taken) f) (record { fits = omega (arith, f .sfits) }))
+add-result c =
+    let f = c .before .fits .n in
+    rw (toZ-ofZ f)
+    (rw (turned-back (c .before .args .n) (below f ∙ c .if1 .taken) f) (record { fits = omega (arith, f .sfits) }))
 
 cast-result-2 : tie.Need-cast-result-2
-cast-result-2 c = let f = c .before .fits .n in rw (toZ-ofZ f) (upward (c .before .args .n) (below f ∙ c .if1 .left), fits-natAbs tt f)
+cast-result-2 c =
+    let f = c .before .fits .n in
+    rw (toZ-ofZ f) (upward (c .before .args .n) (below f ∙ c .if1 .left), fits-natAbs tt f)
 
 returns : tie.Need-returns
 returns c = search needs

@@ -5,7 +5,8 @@ use Rattle.place.proofs.lines.print.Statement.{statement}
 use Rattle.place.proofs.lines.print.Tie as tie
 
 abbrev Inv-loop : tie.InvT-loop
-Inv-loop numbers places layers layer₀ at₀ first₀ layer at first = (layers < 65536) × (layer ≤ layers) × (first ≤ 65536 * layer) × (at ≤ 2 + 131072 * layer)
+Inv-loop numbers places layers layer₀ at₀ first₀ layer at first =
+    (layers < 65536) × (layer ≤ layers) × (first ≤ 65536 * layer) × (at ≤ 2 + 131072 * layer)
 
 abbrev μ-loop : tie.MeasureT-loop
 μ-loop numbers places layers layer₀ at₀ first₀ layer at first = layers - layer

@@ -28,16 +28,27 @@ same-length : tie.Need-same-length Inv-loop μ-loop
 same-length c = c .before .before .before .before .loop .inv .written .same-length
 
 returns : tie.Need-returns Inv-loop μ-loop
-returns c = absurd (fill-never (c .before .before .before .before .loop .inv) (c .before .before .read-number .result) (omega arith) (c .before .before .read-number .ensures) (c .enum-told .given .1))
+returns c =
+    let loop = c .before .before .before .before .loop in
+    let read-number = c .before .before .read-number in
+    absurd (fill-never (loop .inv) (read-number .result) (omega arith) (read-number .ensures) (c .enum-told .given .1))
 
 cast-numbers : tie.Need-cast-numbers Inv-loop μ-loop
-cast-numbers c = omega (arith, fill-next (c .before .before .before .before .before .loop .inv) (c .before .before .before .read-number .result) (omega arith) (c .before .before .before .read-number .ensures) (c .before .found .given .1) .small)
+cast-numbers c =
+    let loop = c .before .before .before .before .before .loop in
+    let read-number = c .before .before .before .read-number in
+    omega
+    (arith,
+    fill-next (loop .inv) (read-number .result) (omega arith) (read-number .ensures) (c .before .found .given .1) .small)
 
 mul-numbers : tie.Need-mul-numbers Inv-loop μ-loop
 mul-numbers c = search needs
 
 slice-write-numbers : tie.Need-slice-write-numbers Inv-loop μ-loop
-slice-write-numbers c = omega (arith, c .before .before .before .before .before .loop .inv .written .same-length, c .before .before .before .before .before .before .before .before .pre .1)
+slice-write-numbers c =
+    let start = c .before .before .before .before .before .before .before .before in
+    let loop = c .before .before .before .before .before .loop in
+    omega (arith, loop .inv .written .same-length, start .pre .1)
 
 add-i : tie.Need-add-i Inv-loop μ-loop
 add-i c = omega arith
@@ -46,7 +57,10 @@ loop-less : tie.Need-loop-less Inv-loop μ-loop
 loop-less c = omega arith
 
 loop-again : tie.Need-loop-again Inv-loop μ-loop
-loop-again c = fill-next (c .before .before .before .before .before .loop .inv) (c .before .before .before .read-number .result) (omega arith) (c .before .before .before .read-number .ensures) (c .before .found .given .1) .again
+loop-again c =
+    let loop = c .before .before .before .before .before .loop in
+    let read-number = c .before .before .before .read-number in
+    fill-next (loop .inv) (read-number .result) (omega arith) (read-number .ensures) (c .before .found .given .1) .again
 
 same-length-2 : tie.Need-same-length-2 Inv-loop μ-loop
 same-length-2 c = c .before .loop .inv .written .same-length

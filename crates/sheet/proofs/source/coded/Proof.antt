@@ -21,13 +21,28 @@ enum-known-found-2 : tie.Need-enum-known-found-2
 enum-known-found-2 c = search needs
 
 add-t9 : tie.Need-add-t9
-add-t9 c = omega (arith, c .before .before .before .before .before .pre, ahead (now (c .before .before .before .before .before .args .bytes)) (c .before .before .before .before .before .args .at) _ _ (sym (c .before .before .before .read-number .ensures) ∙ ap item (c .before .found2 .given .1)))
+add-t9 c =
+    let start = c .before .before .before .before .before in
+    omega
+    (arith, start .pre,
+    ahead (now (start .args .bytes)) (start .args .at) _ _
+    (sym (c .before .before .before .read-number .ensures) ∙ ap item (c .before .found2 .given .1)))
 
 returns : tie.Need-returns
-returns c = sym (ap (step-of (record { encoded = true; at = c .before .before .before .before .before .args .at; count = c .before .before .before .before .before .args .count })) (coded-item (now (c .before .before .before .before .before .args .bytes)) (c .before .before .before .before .before .args .at) (c .before .before .before .read-number .ensures) ∙ ap item (c .before .found .given .1)))
+returns c =
+    let start = c .before .before .before .before .before in
+    sym
+    (ap (step-of (record { encoded = true; at = start .args .at; count = start .args .count }))
+    (coded-item (now (start .args .bytes)) (start .args .at) (c .before .before .before .read-number .ensures)
+    ∙ ap item (c .before .found .given .1)))
 
 returns-2 : tie.Need-returns-2
-returns-2 c = sym (ap (step-of (record { encoded = true; at = c .before .before .before .before .before .args .at; count = c .before .before .before .before .before .args .count })) (coded-item (now (c .before .before .before .before .before .args .bytes)) (c .before .before .before .before .before .args .at) (c .before .before .before .read-number .ensures) ∙ ap item (c .before .found2 .given .1)))
+returns-2 c =
+    let start = c .before .before .before .before .before in
+    sym
+    (ap (step-of (record { encoded = true; at = start .args .at; count = start .args .count }))
+    (coded-item (now (start .args .bytes)) (start .args .at) (c .before .before .before .read-number .ensures)
+    ∙ ap item (c .before .found2 .given .1)))
 
 pub coded-spec : {M : Type 1} → statement M
 coded-spec =

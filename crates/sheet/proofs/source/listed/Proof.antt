@@ -25,13 +25,32 @@ number-size-requires : tie.Need-number-size-requires
 number-size-requires c κs = search needs
 
 add-t10 : tie.Need-add-t10
-add-t10 c = omega (arith, c .before .before .before .before .before .before .pre, c .before .before .before .before .before .before .good, c .number-size .ensures, encode-most number-bytes (c .before .before .found2 .given .0 .0), listed-there (now (c .before .before .before .before .before .before .args .numbers)) (c .before .before .before .before .before .before .args .at) (sym (ap item (c .before .before .found2 .given .1)) ∙ c .before .before .before .before .list-number .ensures))
+add-t10 c =
+    let start = c .before .before .before .before .before .before in
+    let list-number = c .before .before .before .before .list-number in
+    let found2 = c .before .before .found2 in
+    omega
+    (arith, start .pre, start .good, c .number-size .ensures, encode-most number-bytes (found2 .given .0 .0),
+    listed-there (now (start .args .numbers)) (start .args .at)
+    (sym (ap item (found2 .given .1)) ∙ list-number .ensures))
 
 returns : tie.Need-returns
-returns c = sym (ap (step-of (record { encoded = false; at = c .before .before .before .before .before .args .at; count = c .before .before .before .before .before .args .count })) (listed-item (now (c .before .before .before .before .before .args .numbers)) (c .before .before .before .before .before .args .at) (c .before .before .before .list-number .ensures) ∙ ap item (c .before .found .given .1)))
+returns c =
+    let start = c .before .before .before .before .before in
+    sym
+    (ap (step-of (record { encoded = false; at = start .args .at; count = start .args .count }))
+    (listed-item (now (start .args .numbers)) (start .args .at) (c .before .before .before .list-number .ensures)
+    ∙ ap item (c .before .found .given .1)))
 
 returns-2 : tie.Need-returns-2
-returns-2 c = rw (c .number-size .ensures) (sym (ap (step-of (record { encoded = false; at = c .before .before .before .before .before .before .args .at; count = c .before .before .before .before .before .before .args .count })) (listed-item (now (c .before .before .before .before .before .before .args .numbers)) (c .before .before .before .before .before .before .args .at) (c .before .before .before .before .list-number .ensures) ∙ ap item (c .before .before .found2 .given .1))))
+returns-2 c =
+    let start = c .before .before .before .before .before .before in
+    let list-number = c .before .before .before .before .list-number in
+    rw (c .number-size .ensures)
+    (sym
+    (ap (step-of (record { encoded = false; at = start .args .at; count = start .args .count }))
+    (listed-item (now (start .args .numbers)) (start .args .at) (list-number .ensures)
+    ∙ ap item (c .before .before .found2 .given .1))))
 
 pub listed-spec : {M : Type 1} → statement M
 listed-spec =

@@ -22,7 +22,11 @@ refuse-requires-2 : tie.Need-refuse-requires-2
 refuse-requires-2 c κs = search needs
 
 returns-2 : tie.Need-returns-2
-returns-2 c = ap walked (c .refuse2 .ensures) ∙ opens-not (now (c .before .before .before .before .before .args .bytes)) (omega arith) (sym (c .before .before .opens .ensures) ∙ not-true _ (c .before .if2 .taken))
+returns-2 c =
+    let start = c .before .before .before .before .before in
+    ap walked (c .refuse2 .ensures)
+    ∙ opens-not (now (start .args .bytes)) (omega arith)
+    (sym (c .before .before .opens .ensures) ∙ not-true _ (c .before .if2 .taken))
 
 slice-aggregate-walk : tie.Need-slice-aggregate-walk
 slice-aggregate-walk c = search needs
@@ -31,7 +35,10 @@ walk-requires : tie.Need-walk-requires
 walk-requires c κs = search needs
 
 returns-3 : tie.Need-returns-3
-returns-3 c = bytes-walked (now (c .before .before .before .before .before .before .args .bytes)) (omega arith) _ _ (sym (c .before .before .before .opens .ensures) ∙ not-false _ (c .before .before .if2 .left)) (c .walk .ensures)
+returns-3 c =
+    let start = c .before .before .before .before .before .before in
+    bytes-walked (now (start .args .bytes)) (omega arith) _ _
+    (sym (c .before .before .before .opens .ensures) ∙ not-false _ (c .before .before .if2 .left)) (c .walk .ensures)
 
 pub walk-bytes-spec : {M : Type 1} → statement M
 walk-bytes-spec =

@@ -26,7 +26,9 @@ enum-told : tie.Need-enum-told Inv-loop μ-loop
 enum-told c = search needs
 
 returns : tie.Need-returns Inv-loop μ-loop
-returns c = edges-refused (c .before .before .before .before .loop .inv) (omega arith) (c .before .before .edge .ensures) (c .enum-told .given .1)
+returns c =
+    let loop = c .before .before .before .before .loop in
+    edges-refused (loop .inv) (omega arith) (c .before .before .edge .ensures) (c .enum-told .given .1)
 
 add-i : tie.Need-add-i Inv-loop μ-loop
 add-i c = omega arith
@@ -35,7 +37,9 @@ loop-less : tie.Need-loop-less Inv-loop μ-loop
 loop-less c = omega arith
 
 loop-again : tie.Need-loop-again Inv-loop μ-loop
-loop-again c = edges-next (c .before .before .before .before .before .loop .inv) (omega arith) (c .before .before .before .edge .ensures) (c .before .step .given .1)
+loop-again c =
+    let loop = c .before .before .before .before .before .loop in
+    edges-next (loop .inv) (omega arith) (c .before .before .before .edge .ensures) (c .before .step .given .1)
 
 returns-2 : tie.Need-returns-2 Inv-loop μ-loop
 returns-2 c = edges-end (c .before .loop .inv) (c .before .before .before .before .before .args .n) (omega arith)

@@ -22,19 +22,56 @@ enum-told : tie.Need-enum-told
 enum-told c = search needs
 
 returns : tie.Need-returns
-returns c = let a = c .before .before .before .before .before .args in maximum-by (c .before .before .before .before .before .pre) (test-refused (a .c) (checked (within 0 max-separation) (a .c .at) (source (a .c .encoded) (now (a .bytes)) (now (a .numbers)) plain (a .c .at))) (crossed (a .least)) _ (c .before .before .limited .ensures .is) (c .enum-told .given .1))
+returns c =
+    let start = c .before .before .before .before .before in
+    let a = start .args in
+    maximum-by (start .pre)
+    (test-refused (a .c)
+    (checked (within 0 max-separation) (a .c .at)
+    (source (a .c .encoded) (now (a .bytes)) (now (a .numbers)) plain (a .c .at)))
+    (crossed (a .least)) _ (c .before .before .limited .ensures .is) (c .enum-told .given .1))
 
 returns-2 : tie.Need-returns-2
-returns-2 c = let a = c .before .before .before .before .before .before .before .args in maximum-by (c .before .before .before .before .before .before .before .pre) (test-good (a .c) (checked (within 0 max-separation) (a .c .at) (source (a .c .encoded) (now (a .bytes)) (now (a .numbers)) plain (a .c .at))) (crossed (a .least)) _ (c .before .before .before .before .limited .ensures .is) (c .before .before .step .given .1) (crossed-none (a .least) (c .before .before .step .given .0 .0) (omega arith)))
+returns-2 c =
+    let start = c .before .before .before .before .before .before .before in
+    let limited = c .before .before .before .before .limited in
+    let step = c .before .before .step in
+    let a = start .args in
+    maximum-by (start .pre)
+    (test-good (a .c)
+    (checked (within 0 max-separation) (a .c .at)
+    (source (a .c .encoded) (now (a .bytes)) (now (a .numbers)) plain (a .c .at)))
+    (crossed (a .least)) _ (limited .ensures .is) (step .given .1)
+    (crossed-none (a .least) (step .given .0 .0) (omega arith)))
 
 refuse-requires : tie.Need-refuse-requires
 refuse-requires c κs = search needs
 
 returns-3 : tie.Need-returns-3
-returns-3 c = let a = c .before .before .before .before .before .before .before .before .before .args in maximum-by (c .before .before .before .before .before .before .before .before .before .pre) (test-broken (a .c) (checked (within 0 max-separation) (a .c .at) (source (a .c .encoded) (now (a .bytes)) (now (a .numbers)) plain (a .c .at))) (crossed (a .least)) _ (c .before .before .before .before .before .before .limited .ensures .is) (c .before .before .before .before .step .given .1) _ (crossed-below (a .least) (c .before .before .before .before .step .given .0 .0) (omega arith) (omega arith)) (omega arith) (c .refuse .ensures))
+returns-3 c =
+    let start = c .before .before .before .before .before .before .before .before .before in
+    let limited = c .before .before .before .before .before .before .limited in
+    let step = c .before .before .before .before .step in
+    let a = start .args in
+    maximum-by (start .pre)
+    (test-broken (a .c)
+    (checked (within 0 max-separation) (a .c .at)
+    (source (a .c .encoded) (now (a .bytes)) (now (a .numbers)) plain (a .c .at)))
+    (crossed (a .least)) _ (limited .ensures .is) (step .given .1) _
+    (crossed-below (a .least) (step .given .0 .0) (omega arith) (omega arith)) (omega arith) (c .refuse .ensures))
 
 returns-4 : tie.Need-returns-4
-returns-4 c = let a = c .before .before .before .before .before .before .before .before .args in maximum-by (c .before .before .before .before .before .before .before .before .pre) (test-good (a .c) (checked (within 0 max-separation) (a .c .at) (source (a .c .encoded) (now (a .bytes)) (now (a .numbers)) plain (a .c .at))) (crossed (a .least)) _ (c .before .before .before .before .before .limited .ensures .is) (c .before .before .before .step .given .1) (crossed-inside (a .least) (c .before .before .before .step .given .0 .0) (omega arith) (omega arith)))
+returns-4 c =
+    let start = c .before .before .before .before .before .before .before .before in
+    let limited = c .before .before .before .before .before .limited in
+    let step = c .before .before .before .step in
+    let a = start .args in
+    maximum-by (start .pre)
+    (test-good (a .c)
+    (checked (within 0 max-separation) (a .c .at)
+    (source (a .c .encoded) (now (a .bytes)) (now (a .numbers)) plain (a .c .at)))
+    (crossed (a .least)) _ (limited .ensures .is) (step .given .1)
+    (crossed-inside (a .least) (step .given .0 .0) (omega arith) (omega arith)))
 
 pub maximum-spec : {M : Type 1} → statement M
 maximum-spec =

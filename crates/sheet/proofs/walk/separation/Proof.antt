@@ -17,7 +17,11 @@ enum-told c = search needs
 
 returns : tie.Need-returns
 unfolding separation
-returns c = record { reads = stops (c .before .before .limited .ensures .reads) (λ least. Grammar.number plain (maximum-rule least)) (c .enum-told .given .1) }
+returns c =
+    record {
+      reads = stops (c .before .before .limited .ensures .reads) (λ least. Grammar.number plain (maximum-rule least))
+      (c .enum-told .given .1);
+    }
 
 maximum-requires : tie.Need-maximum-requires
 unfolding separation
@@ -25,7 +29,12 @@ maximum-requires c κs = good-value (c .before .before .before .limited .ensures
 
 returns-2 : tie.Need-returns-2
 unfolding separation
-returns-2 c = record { reads = then-reads (c .before .before .before .before .limited .ensures .reads) (λ least. Grammar.number plain (maximum-rule least)) (c .before .before .step .given .1) (c .maximum .ensures .reads) }
+returns-2 c =
+    let limited = c .before .before .before .before .limited in
+    record {
+      reads = then-reads (limited .ensures .reads) (λ least. Grammar.number plain (maximum-rule least))
+      (c .before .before .step .given .1) (c .maximum .ensures .reads);
+    }
 
 pub separation-spec : {M : Type 1} → statement M
 separation-spec =

@@ -28,7 +28,10 @@ enum-told-2 : tie.Need-enum-told-2
 enum-told-2 c = search needs
 
 returns-2 : tie.Need-returns-2
-returns-2 c = count-refused (c .before .before .before .before .before .before .limited .ensures) (c .before .before .before .before .width .given .1) (c .before .before .limited2 .ensures) (c .enum-told2 .given .1)
+returns-2 c =
+    let limited = c .before .before .before .before .before .before .limited in
+    let width = c .before .before .before .before .width in
+    count-refused (limited .ensures) (width .given .1) (c .before .before .limited2 .ensures) (c .enum-told2 .given .1)
 
 cast-layers : tie.Need-cast-layers
 cast-layers c = search needs
@@ -37,7 +40,10 @@ slice-aggregate-layers : tie.Need-slice-aggregate-layers
 slice-aggregate-layers c = search needs
 
 layers-requires : tie.Need-layers-requires
-layers-requires c κs = (limited-value (c .before .before .before .before .limited2 .ensures) (c .before .before .count .given .1) .0, limited-value (c .before .before .before .before .limited2 .ensures) (c .before .before .count .given .1) .1 .1)
+layers-requires c κs =
+    let limited2 = c .before .before .before .before .limited2 in
+    let count = c .before .before .count in
+    (limited-value (limited2 .ensures) (count .given .1) .0, limited-value (limited2 .ensures) (count .given .1) .1 .1)
 
 enum-known-last : tie.Need-enum-known-last
 enum-known-last c = search needs
@@ -46,7 +52,13 @@ enum-told-3 : tie.Need-enum-told-3
 enum-told-3 c = search needs
 
 returns-3 : tie.Need-returns-3
-returns-3 c = layers-refused (c .before .before .before .before .before .before .before .before .before .before .before .before .limited .ensures) (c .before .before .before .before .before .before .before .before .before .before .width .given .1) (c .before .before .before .before .before .before .before .before .limited2 .ensures) (c .before .before .before .before .before .before .count .given .1) (c .before .before .before .layers .ensures) (c .enum-told3 .given .1)
+returns-3 c =
+    let limited = c .before .before .before .before .before .before .before .before .before .before .before .before .limited in
+    let width = c .before .before .before .before .before .before .before .before .before .before .width in
+    let limited2 = c .before .before .before .before .before .before .before .before .limited2 in
+    let count = c .before .before .before .before .before .before .count in
+    layers-refused (limited .ensures) (width .given .1) (limited2 .ensures) (count .given .1)
+    (c .before .before .before .layers .ensures) (c .enum-told3 .given .1)
 
 limited-requires-3 : tie.Need-limited-requires-3
 limited-requires-3 c κs = layers-value (c .before .before .before .before .layers .ensures) (c .before .last .given .1)
@@ -58,18 +70,41 @@ enum-told-4 : tie.Need-enum-told-4
 enum-told-4 c = search needs
 
 returns-4 : tie.Need-returns-4
-returns-4 c = total-refused (c .before .before .before .before .before .before .before .before .before .before .before .before .before .before .before .before .limited .ensures) (c .before .before .before .before .before .before .before .before .before .before .before .before .before .before .width .given .1) (c .before .before .before .before .before .before .before .before .before .before .before .before .limited2 .ensures) (c .before .before .before .before .before .before .before .before .before .before .count .given .1) (c .before .before .before .before .before .before .before .layers .ensures) (c .before .before .before .before .last .given .1) (c .before .before .limited3 .ensures) (c .enum-told4 .given .1)
+returns-4 c =
+    let limited = c .before .before .before .before .before .before .before .before .before .before .before .before .before .before .before .before .limited in
+    let width = c .before .before .before .before .before .before .before .before .before .before .before .before .before .before .width in
+    let limited2 = c .before .before .before .before .before .before .before .before .before .before .before .before .limited2 in
+    let count = c .before .before .before .before .before .before .before .before .before .before .count in
+    let layers = c .before .before .before .before .before .before .before .layers in
+    let last = c .before .before .before .before .last in
+    total-refused (limited .ensures) (width .given .1) (limited2 .ensures) (count .given .1) (layers .ensures)
+    (last .given .1) (c .before .before .limited3 .ensures) (c .enum-told4 .given .1)
 
 slice-aggregate-edges : tie.Need-slice-aggregate-edges
 slice-aggregate-edges c = search needs
 
 edges-requires : tie.Need-edges-requires
 edges-requires c κs =
-    let count = limited-value (c .before .before .before .before .before .before .before .before .before .before .before .before .before .before .limited2 .ensures) (c .before .before .before .before .before .before .before .before .before .before .before .before .count .given .1) .1 in
-    (limited-value (c .before .before .before .before .limited3 .ensures) (c .before .before .total .given .1) .0, (count .0, omega (arith, count .1, c .before .before .before .before .before .before .before .before .before .layers .kept .1 .1 .1 .1 .0)))
+    let limited2 = c .before .before .before .before .before .before .before .before .before .before .before .before .before .before .limited2 in
+    let layers = c .before .before .before .before .before .before .before .before .before .layers in
+    let limited3 = c .before .before .before .before .limited3 in
+    let count =
+        limited-value (limited2 .ensures)
+        (c .before .before .before .before .before .before .before .before .before .before .before .before .count .given .1) .1 in
+    (limited-value (limited3 .ensures) (c .before .before .total .given .1) .0,
+    (count .0, omega (arith, count .1, layers .kept .1 .1 .1 .1 .0)))
 
 returns-5 : tie.Need-returns-5
-returns-5 c = sheet-walked (c .before .before .before .before .before .before .before .before .before .before .before .before .before .before .before .before .before .before .before .limited .ensures) (c .before .before .before .before .before .before .before .before .before .before .before .before .before .before .before .before .before .width .given .1) (c .before .before .before .before .before .before .before .before .before .before .before .before .before .before .before .limited2 .ensures) (c .before .before .before .before .before .before .before .before .before .before .before .before .before .count .given .1) (c .before .before .before .before .before .before .before .before .before .before .layers .ensures) (c .before .before .before .before .before .before .before .last .given .1) (c .before .before .before .before .before .limited3 .ensures) (c .before .before .before .total .given .1) (c .edges .ensures)
+returns-5 c =
+    let limited = c .before .before .before .before .before .before .before .before .before .before .before .before .before .before .before .before .before .before .before .limited in
+    let width = c .before .before .before .before .before .before .before .before .before .before .before .before .before .before .before .before .before .width in
+    let limited2 = c .before .before .before .before .before .before .before .before .before .before .before .before .before .before .before .limited2 in
+    let count = c .before .before .before .before .before .before .before .before .before .before .before .before .before .count in
+    let layers = c .before .before .before .before .before .before .before .before .before .before .layers in
+    let last = c .before .before .before .before .before .before .before .last in
+    let limited3 = c .before .before .before .before .before .limited3 in
+    sheet-walked (limited .ensures) (width .given .1) (limited2 .ensures) (count .given .1) (layers .ensures)
+    (last .given .1) (limited3 .ensures) (c .before .before .before .total .given .1) (c .edges .ensures)
 
 pub walk-spec : {M : Type 1} → statement M
 walk-spec =

@@ -18,13 +18,24 @@ same-length : tie.Need-same-length
 same-length c = search needs
 
 returns : tie.Need-returns
-returns c = absurd (⊎-elim (λ e. omega arith) (λ e. omega arith) (rw (c .before .before .before .write-number .ensures .0 ∙ placed-next (now (c .before .before .before .before .before .before .args .bytes)) (c .before .before .before .before .before .before .args .at) (c .before .before .before .before .before .before .args .n) (c .before .before .before .before .before .before .pre .0) (c .before .before .before .before .before .before .pre .1)) at (c .match .keys2)))
+returns c =
+    let start = c .before .before .before .before .before .before in
+    absurd
+    (⊎-elim (λ e. omega arith) (λ e. omega arith)
+    (rw
+    (c .before .before .before .write-number .ensures .0
+    ∙ placed-next (now (start .args .bytes)) (start .args .at) (start .args .n) (start .pre .0) (start .pre .1))
+    at (c .match .keys2)))
 
 same-length-2 : tie.Need-same-length-2
 same-length-2 c = search needs
 
 returns-2 : tie.Need-returns-2
-returns-2 c = put-done (now (c .before .before .before .before .before .before .before .before .args .bytes)) (c .before .before .before .before .before .before .before .before .args .at) (c .before .before .before .before .before .before .before .before .args .n) (c .before .before .before .before .before .before .before .before .pre .0) (c .before .before .before .before .before .before .before .before .pre .1) (c .before .placed .given .1) (c .before .before .before .before .before .write-number .ensures)
+returns-2 c =
+    let start = c .before .before .before .before .before .before .before .before in
+    let write-number = c .before .before .before .before .before .write-number in
+    put-done (now (start .args .bytes)) (start .args .at) (start .args .n) (start .pre .0) (start .pre .1)
+    (c .before .placed .given .1) (write-number .ensures)
 
 pub put-spec : {M : Type 1} → statement M
 put-spec =

@@ -26,7 +26,10 @@ cast-put : tie.Need-cast-put Inv-loop μ-loop
 cast-put c = omega (arith, c .shared-slice-known2 .given (c .before .before .before .loop .i))
 
 put-requires : tie.Need-put-requires Inv-loop μ-loop
-put-requires c κs = (c .before .before .before .before .before .before .pre .0 (c .before .before .before .loop .i), put-room (c .before .before .before .loop .inv) (omega arith))
+put-requires c κs =
+    let start = c .before .before .before .before .before .before in
+    let loop = c .before .before .before .loop in
+    (start .pre .0 (loop .i), put-room (loop .inv) (omega arith))
 
 add-i : tie.Need-add-i Inv-loop μ-loop
 add-i c = omega arith
@@ -35,7 +38,9 @@ loop-less : tie.Need-loop-less Inv-loop μ-loop
 loop-less c = omega arith
 
 loop-again : tie.Need-loop-again Inv-loop μ-loop
-loop-again c = put-next (c .before .before .before .before .before .before .loop .inv) (omega arith) (c .before .before .put .ensures)
+loop-again c =
+    let loop = c .before .before .before .before .before .before .loop in
+    put-next (loop .inv) (omega arith) (c .before .before .put .ensures)
 
 same-length : tie.Need-same-length Inv-loop μ-loop
 same-length c = c .before .loop .inv .written .same-length
