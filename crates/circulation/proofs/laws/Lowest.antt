@@ -1,5 +1,6 @@
 -- After a search from the ground that reached every node the potentials are the leftmost of least cost: any others in
 -- complementary slackness with the flows, shifted to natural numbers, are at least as far right along the tree.
+use Rattle.network.specs.laws.Tests.{fails}
 use Rattle.network.specs.Net.{at, Net, arcs, tail, head, kink, low, high, asks, stands, meant}
 use Rattle.network.specs.laws.Indexed.{upto-length, upto-ext, upto-past, upto-all}
 use Rattle.network.specs.laws.PackedLegal.{less-parts, minus-parts}
@@ -22,7 +23,7 @@ use Rattle.circulation.specs.inside.Search.{Tree}
 use Rattle.network.specs.Packed.{low-of, high-of, arc-at, high-none, kink-zero, flow-zero}
 use Rattle.circulation.specs.Solutions.{flows-of, potentials-of, Solution}
 use mathlib.Core.Path.{_≡_, refl, sym, subst, ap, _∙_}
-use mathlib.Core.Bool.{Bool, true, false, not, cond}
+use mathlib.Core.Bool.{not, cond}
 use mathlib.Core.List.{List}
 use Prim.Native.Nat.{ℕ, _+_, _-_, _≤_, _<_}
 use native.Mathlib.Decide.{ℕ-discrete, decLt}
@@ -47,18 +48,13 @@ zeros : (up (pos 0) ≡ 0) × (down (pos 0) ≡ 0)
 unfolding up down
 zeros = (refl, refl)
 
--- a test that cannot pass fails
-T-no : (b : Bool) → (T b → ⊥) → T (not b)
-T-no true n = n tt
-T-no false n = tt
-
 -- a flow that is not the limit has not reached it
 not-reached : (none l x : ℕ) → (x ≡ l → ⊥) → T (not (reached (limit-of none l) (pos x -ℤ pos flow-zero)))
 not-reached none l x ne = go (ℕ-discrete l none)
   where
     go : Dec (l ≡ none) → T (not (reached (cond (eqb l none) unlimited (limit (pos l -ℤ pos flow-zero))) (pos x -ℤ pos flow-zero)))
     go (yes e) = rw (eq-eqb l none e) tt
-    go (no other) = rw (ne-eqb l none other) (T-no (eqZ (pos x -ℤ pos flow-zero) (pos l -ℤ pos flow-zero)) (λ t.
+    go (no other) = rw (ne-eqb l none other) (fails (eqZ (pos x -ℤ pos flow-zero) (pos l -ℤ pos flow-zero)) (λ t.
         let same = eqZ→eq (pos x -ℤ pos flow-zero) (pos l -ℤ pos flow-zero) t in
         ne (omega (arith, less-parts x flow-zero, less-parts l flow-zero, ap up same, ap down same))))
 

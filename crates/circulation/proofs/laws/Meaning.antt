@@ -1,7 +1,7 @@
 -- Slackness and balance on packed numbers are the theory's: each integer is a difference of two naturals, so omega decides.
 use Rattle.network.specs.laws.Indexed.{upto-ext, upto-in, upto-past, all-upto, flows-upto}
 use Rattle.network.specs.laws.Sums.{sum-append}
-use Rattle.network.specs.laws.Tests.{at-below, and-both}
+use Rattle.network.specs.laws.Tests.{at-below, and-both, not-both}
 use Rattle.network.specs.laws.PackedLegal.{less-parts, minus-parts}
 use Rattle.network.specs.Sums.{sum, sum-to, all, only, upto}
 use Rattle.network.specs.laws.SumsTo.{sum-to-add}
@@ -17,7 +17,7 @@ use Rattle.circulation.specs.Input.{WellFormed}
 use Rattle.network.specs.Packed.{low-of, high-of, arc-at, high-none, kink-zero, flow-zero}
 use Rattle.circulation.specs.Solutions.{flows-of}
 use mathlib.Core.Path.{_≡_, refl, ap, _∙_}
-use mathlib.Core.Bool.{Bool, true, false, not, cond}
+use mathlib.Core.Bool.{not, cond}
 use mathlib.Core.List.{List, [], _∷_}
 use Prim.Native.Nat.{ℕ, zero, suc, _+_, _-_, _≤_, _<_}
 use native.Mathlib.Decide.{ℕ-discrete, decLt}
@@ -79,11 +79,6 @@ high-kept none h x le = go (ℕ-discrete h none)
 -- a flow that is the limit has reached it
 is-reached : (none l x : ℕ) → x ≡ l → (l ≡ none → ⊥) → T (reached (limit-of none l) (pos x -ℤ pos flow-zero))
 is-reached none l x e ne = rw (ne-eqb l none ne, e) (eqZ-refl (pos l -ℤ pos flow-zero))
-
--- a test that fails does not pass
-pub not-T : (b : Bool) → T (not b) → T b → ⊥
-not-T true n t = n
-not-T false n t = t
 
 -- the parts of a flow at one end
 only-parts : (u v x b : ℕ) → up (only u (pos x -ℤ pos b) v) + pick u v b ≡ down (only u (pos x -ℤ pos b) v) + pick u v x
@@ -147,11 +142,11 @@ module _ (N : Net) (n : ℕ) (p x : ℕ → ℕ) (wf : WellFormed N n) (slack : 
       (λ open-low. not-left open-low (decLt (stands N p i) (asks N p i)))
     where
       not-right : T (not (reached (limit-of high-none (high N i)) (pos (x i) -ℤ pos flow-zero))) → Dec (asks N p i < stands N p i) → past-kink (relative n p) (arc-at (N .list) i) ≤ℤ pos 0
-      not-right o (yes more) = absurd (not-T (reached (limit-of high-none (high N i)) (pos (x i) -ℤ pos flow-zero)) o (is-reached high-none (high N i) (x i) (slack .right i l more) (λ hard. omega (arith, slack .right i l more, slack .not-full i l hard))))
+      not-right o (yes more) = absurd (not-both (reached (limit-of high-none (high N i)) (pos (x i) -ℤ pos flow-zero)) (is-reached high-none (high N i) (x i) (slack .right i l more) (λ hard. omega (arith, slack .right i l more, slack .not-full i l hard))) o)
       not-right o (no le) = parts-le (past-kink (relative n p) (arc-at (N .list) i)) (pos 0) (omega (arith, off-parts i l))
 
       not-left : T (not (reached (limit-of 0 (low N i)) (pos (x i) -ℤ pos flow-zero))) → Dec (stands N p i < asks N p i) → pos 0 ≤ℤ past-kink (relative n p) (arc-at (N .list) i)
-      not-left o (yes less) = absurd (not-T (reached (limit-of 0 (low N i)) (pos (x i) -ℤ pos flow-zero)) o (is-reached 0 (low N i) (x i) (slack .left i l less) (λ hard. omega (arith, slack .left i l less, slack .not-empty i l hard))))
+      not-left o (yes less) = absurd (not-both (reached (limit-of 0 (low N i)) (pos (x i) -ℤ pos flow-zero)) (is-reached 0 (low N i) (x i) (slack .left i l less) (λ hard. omega (arith, slack .left i l less, slack .not-empty i l hard))) o)
       not-left o (no le) = parts-le (pos 0) (past-kink (relative n p) (arc-at (N .list) i)) (omega (arith, off-parts i l))
 
   -- a flow is allowed

@@ -11,7 +11,7 @@ use Rattle.leb128.specs.Format.Result.{elements, refused}
 use Rattle.sheet.specs.Limits.{magic}
 use Rattle.sheet.specs.Grammar.{sheet}
 use Rattle.network.specs.Sums.{all}
-use Rattle.network.specs.laws.Tests.{and-left, and-right}
+use Rattle.network.specs.laws.Tests.{and-left, and-right, is-true, is-false}
 use Rattle.drawing.specs.Sheet.{sheet-of}
 use Rattle.drawing.specs.Drawing.{Drawing, total-length, LeftmostDrawing}
 use Rattle.drawing.specs.Judged.{judged}
@@ -50,16 +50,6 @@ pub record Holds (r : Row) : Type 0 where
   pub numbers : List ℕ
   pub read : reading magic sheet (r .bytes) ≡ elements numbers
   pub says : Says numbers (r .outcome)
-
--- a test that passes is true
-is-true : (b : Bool) → T b → b ≡ true
-is-true true t = refl
-is-true false t = absurd t
-
--- a test whose negation passes is false
-is-false : (b : Bool) → T (not b) → b ≡ false
-is-false true t = absurd t
-is-false false t = refl
 
 -- the test of an outcome
 abbrev pub passes : List ℕ → Outcome → Bool

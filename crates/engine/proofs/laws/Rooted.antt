@@ -4,7 +4,7 @@ use Prim.Native.Nat.{ℕ, zero, suc, _+_, _-_, _*_, _≤_, _<_}
 use mathlib.Core.Path.{_≡_, refl, sym, subst}
 use mathlib.Core.Bool.{Bool, true, false, not, _&&_, _||_}
 use mathlib.Core.List.{List}
-use mathlib.Core.Logic.{_⊎_, inl, inr, ⊎-elim}
+use mathlib.Core.Logic.{inl, inr, ⊎-elim}
 use native.Mathlib.Omega.{arith}
 use borrow.Author.Tests.{eq-eqb}
 use lib.Dec.{T, eqb, ltb, leb, lt→ltb, le→leb, ltb→lt, leb→le, eqb→eq}
@@ -13,7 +13,7 @@ use Rattle.network.specs.Sums.{all}
 use Rattle.network.specs.Network.{finite, Arc, Network}
 use Rattle.network.specs.Packed.{stride, high-at, arc-at}
 use Rattle.network.specs.Net.{at, net}
-use Rattle.network.specs.laws.Tests.{and-left, and-right, and-both}
+use Rattle.network.specs.laws.Tests.{and-left, and-right, and-both, or-left, or-right, either, is-false, not-both}
 use Rattle.network.specs.laws.Indexed.{all-upto}
 use Rattle.network.specs.laws.PackedLegal.{hard-high}
 use Rattle.network.specs.laws.Hanging.{Hook}
@@ -46,31 +46,6 @@ some-index t (suc m) f = go (some-index t m) (t m) refl
 abbrev hooked : ℕ → ℕ → Arc → Bool
 hooked n v x = eqb (x .tail) v && (not (finite (x .high)) && (leb n (x .head) || ltb (x .head) v))
 
--- one of two tests
-or-left : (b c : Bool) → T b → T (b || c)
-or-left true c t = tt
-or-left false c t = absurd t
-
--- the other
-or-right : (b c : Bool) → T c → T (b || c)
-or-right true c t = tt
-or-right false c t = t
-
--- which of two passes
-either : (b c : Bool) → T (b || c) → T b ⊎ T c
-either true c t = inl tt
-either false c t = inr t
-
--- a test and its opposite
-both-not : (b : Bool) → T b → T (not b) → ⊥
-both-not true t n = n
-both-not false t n = t
-
--- a test whose opposite passes
-not-passes : (b : Bool) → T (not b) → b ≡ false
-not-passes true t = absurd t
-not-passes false t = refl
-
 -- a hook is hooked
 hook-hooked : (n v : ℕ) (xs : List Arc) (k : Hook n xs v) → T (hooked n v (k .arc))
 hook-hooked n v xs k =
@@ -91,7 +66,7 @@ module _ {a : List ℕ} {c : Counts} (h : Holds a c) where
       let k : Hook (N .nodes) (N .arcs) v = sheet-hangs (h .numbers) .hook v (omega (arith, h .nodes-are)) in
       some-index (λ i. hooked (c .nodes) v (arc-at a i)) (c .arcs)
       (λ none.
-      both-not (hooked (c .nodes) v (k .arc)) (subst (λ (n : ℕ). T (hooked n v (k .arc))) (sym (h .nodes-are)) (hook-hooked (N .nodes) v (N .arcs) k))
+      not-both (hooked (c .nodes) v (k .arc)) (subst (λ (n : ℕ). T (hooked n v (k .arc))) (sym (h .nodes-are)) (hook-hooked (N .nodes) v (N .arcs) k))
       (k .listed (λ x. not (hooked (c .nodes) v x))
       (subst (λ (M : Network). T (all (λ x. not (hooked (c .nodes) v x)) (M .arcs))) (network-is h) (all-upto (λ x. not (hooked (c .nodes) v x)) (c .arcs) (arc-at a) none))))
 
@@ -103,7 +78,7 @@ module _ {a : List ℕ} {c : Counts} (h : Holds a c) where
       let rest : T (not (finite (x .high)) && side) = and-right (eqb (x .tail) v) (not (finite (x .high)) && side) t in
       record {
         from = eqb→eq (x .tail) v (and-left (eqb (x .tail) v) (not (finite (x .high)) && side) t);
-        hard = hard-high (at a (stride * i + high-at)) (not-passes (finite (x .high)) (and-left (not (finite (x .high))) side rest));
+        hard = hard-high (at a (stride * i + high-at)) (is-false (finite (x .high)) (and-left (not (finite (x .high))) side rest));
         to =
             ⊎-elim
             (λ (past : T (leb (c .nodes) (x .head))). inl (last (x .head) (leb→le (c .nodes) (x .head) past) (head-in h i l)))

@@ -1,7 +1,8 @@
 -- Tests as facts: of two tests, of the numbers below one, and of the elements of a list.
 use Prim.Native.Nat.{ℕ, zero, suc, _<_}
 use mathlib.Core.Path.{_≡_, refl, sym, _∙_, ap, ap₂, subst, fun-ext}
-use mathlib.Core.Bool.{Bool, true, false, not, _&&_, and-assoc}
+use mathlib.Core.Bool.{Bool, true, false, not, _&&_, _||_, and-assoc}
+use mathlib.Core.Logic.{_⊎_, inl, inr}
 use mathlib.Core.List.{List, [], _∷_, _++_, map, flatMap}
 use native.Mathlib.Decide.{ℕ-discrete}
 use native.Mathlib.Nat.{not-suc-le-zero}
@@ -23,6 +24,41 @@ and-right false b t = absurd t
 pub and-both : (a b : Bool) → T a → T b → T (a && b)
 and-both true b s t = t
 and-both false b s t = s
+
+-- a test of which the first passes
+pub or-left : (a b : Bool) → T a → T (a || b)
+or-left true b t = tt
+or-left false b t = absurd t
+
+-- of which the second passes
+pub or-right : (a b : Bool) → T b → T (a || b)
+or-right true b t = tt
+or-right false b t = t
+
+-- one of two tests passes
+pub either : (a b : Bool) → T (a || b) → T a ⊎ T b
+either true b t = inl tt
+either false b t = inr t
+
+-- a test that passes
+pub is-true : (b : Bool) → T b → b ≡ true
+is-true true t = refl
+is-true false t = absurd t
+
+-- a test that fails
+pub is-false : (b : Bool) → T (not b) → b ≡ false
+is-false true t = absurd t
+is-false false t = refl
+
+-- a test that cannot pass fails
+pub fails : (b : Bool) → (T b → ⊥) → T (not b)
+fails true f = f tt
+fails false f = tt
+
+-- no test passes and fails
+pub not-both : (b : Bool) → T b → T (not b) → ⊥
+not-both true t n = n
+not-both false t n = t
 
 -- tests that pass in the same cases are equal
 pub test-ext : (a b : Bool) → (T a → T b) → (T b → T a) → a ≡ b

@@ -1,6 +1,6 @@
 -- A word can be read back: its parts are quotient and remainder by 2³².
-use Prim.Native.Nat.{ℕ, _+_, _*_, _<_, _/_, _%_}
-use mathlib.Core.Path.{_≡_, _∙_, ap, sym}
+use Prim.Native.Nat.{ℕ, _<_, _/_, _%_}
+use mathlib.Core.Path.{_≡_}
 use native.Mathlib.Omega.{arith}
 use Rattle.strip.specs.Words.{unit, packed}
 

@@ -1,7 +1,7 @@
 -- A word holds every answer: each value and each offset is below 2³², since a walk ends within the longest sheet, and each
 -- refusal has a number.
 use Prim.Native.Nat.{ℕ, _≤_, _<_}
-use mathlib.Core.Path.{_≡_, refl, sym}
+use mathlib.Core.Path.{_≡_, refl}
 use mathlib.Core.Logic.{⊎-elim}
 use mathlib.Core.List.{List}
 use native.Mathlib.Omega.{arith}
@@ -17,7 +17,7 @@ use Rattle.sheet.specs.Grammar.{sheet}
 use Rattle.sheet.specs.laws.Sheets.{FormatRefusal, read-accepted, most-numbers, most-bytes, read-written, writer-refusals, writer-given, reader-refusals, reader-offsets, writer-offsets}
 use Rattle.drawing.specs.Sheet.{Sheet, sheet-of}
 use Rattle.checker.specs.Verdict.{Judgement, check-answer}
-use Rattle.checker.specs.laws.Refusals.{Given, check-refusals}
+use Rattle.checker.specs.laws.Refusals.{check-refusals}
 use Rattle.engine.specs.Draws.{Drawn, Refuses, DrawsSheet, Draws}
 use Rattle.engine.specs.Draws.Refuses.{few-places, few-numbers, none, passes}
 use Rattle.strip.specs.Words.{unit}
