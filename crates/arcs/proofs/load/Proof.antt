@@ -29,8 +29,8 @@ part-load-numbers-end c =
     let start = c .before .before .before .before .before .before .before .before .before in
     let read = c .before .before .before .before .before .read in
     let h =
-        done-room (start .args .bytes .now) _ _ (read .ensures .0) (read .ensures .1)
-        (c .before .before .answer2 .given .1) in
+    done-room (start .args .bytes .now) _ _ (read .ensures .0) (read .ensures .1)
+    (c .before .before .answer2 .given .1) in
     omega arith
 
 load-numbers-requires : tie.Need-load-numbers-requires
@@ -43,11 +43,12 @@ load-numbers-requires c κs =
 returns : tie.Need-returns
 returns c =
     let start = c .before .before .before .before .before .before .before .before in
-    let read = c .before .before .before .before .read in
-    (refused-answer (start .args .bytes .now) _ _ (read .ensures .0) (read .ensures .1) (omega arith)
-    (c .before .answer .given .1) (length (start .args .arcs .now)),
-    refused-slice (start .args .bytes .now) _ _ (read .ensures .0) (read .ensures .1) (omega arith)
-    (c .before .answer .given .1) (start .args .arcs .now))
+    let read = c .before .before .before .before .read in (
+      refused-answer (start .args .bytes .now) _ _ (read .ensures .0) (read .ensures .1) (omega arith)
+          (c .before .answer .given .1) (length (start .args .arcs .now)),
+      refused-slice (start .args .bytes .now) _ _ (read .ensures .0) (read .ensures .1) (omega arith)
+          (c .before .answer .given .1) (start .args .arcs .now),
+    )
 
 same-length : tie.Need-same-length
 same-length c = search needs
@@ -57,11 +58,12 @@ returns-2 c =
     let start = c .before .before .before .before .before .before .before .before .before .before .before .before .before .before in
     let read = c .before .before .before .before .before .before .before .before .before .before .read in
     let answer2 = c .before .before .before .before .before .before .before .answer2 in
-    let load-numbers = c .before .before .load-numbers in
-    (done-answer (start .args .bytes .now) _ _ (read .ensures .0) (read .ensures .1) (answer2 .given .1) _
-    (load-numbers .ensures .0),
-    done-slice (start .args .bytes .now) _ _ (read .ensures .0) (read .ensures .1) (answer2 .given .1)
-    (start .args .arcs .now) (load-numbers .ensures .1))
+    let load-numbers = c .before .before .load-numbers in (
+      done-answer (start .args .bytes .now) _ _ (read .ensures .0) (read .ensures .1) (answer2 .given .1) _
+          (load-numbers .ensures .0),
+      done-slice (start .args .bytes .now) _ _ (read .ensures .0) (read .ensures .1) (answer2 .given .1)
+          (start .args .arcs .now) (load-numbers .ensures .1),
+    )
 
 pub load-spec : {M : Type 1} → statement M
 load-spec =

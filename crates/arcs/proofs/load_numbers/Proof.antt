@@ -33,9 +33,10 @@ mul-if1 c =
 returns : tie.Need-returns
 returns c =
     let start = c .before .before .before .before .before .before in
-    let plan = c .before .before .plan in
-    (too-short-answer (start .pre) (plan .ensures) (start .args .arcs .now) (c .if1 .taken),
-    too-short-slice (start .pre) (plan .ensures) (start .args .arcs .now) (c .if1 .taken))
+    let plan = c .before .before .plan in (
+      too-short-answer (start .pre) (plan .ensures) (start .args .arcs .now) (c .if1 .taken),
+      too-short-slice (start .pre) (plan .ensures) (start .args .arcs .now) (c .if1 .taken),
+    )
 
 number-requires : tie.Need-number-requires
 number-requires c κs = search needs
@@ -54,11 +55,12 @@ returns-2 c =
     let start = c .before .before .before .before .before .before .before .before .before .before .before .before in
     let plan = c .before .before .before .before .before .before .before .before .plan in
     let if1 = c .before .before .before .before .before .before .if1 in
-    let number = c .before .before .before .before .before .number in
-    (long-enough-answer (start .pre) (plan .ensures) (start .args .arcs .now) (number .ensures)
-    (omega (arith, if1 .left)),
-    long-enough-slice (start .pre) (plan .ensures) (start .args .arcs .now) (number .ensures) (omega (arith, if1 .left))
-    (c .before .before .fill .ensures))
+    let number = c .before .before .before .before .before .number in (
+      long-enough-answer (start .pre) (plan .ensures) (start .args .arcs .now) (number .ensures)
+          (omega (arith, if1 .left)),
+      long-enough-slice (start .pre) (plan .ensures) (start .args .arcs .now) (number .ensures) (omega (arith, if1 .left))
+          (c .before .before .fill .ensures),
+    )
 
 pub load-numbers-spec : {M : Type 1} → statement M
 load-numbers-spec =

@@ -43,8 +43,8 @@ returns-2 c =
     let start = c .before .before .before .before .before .before .before .before .before .before in
     let load = c .before .before .before .before .before .before .load in
     let l =
-        loaded-sheet (start .args .bytes .now) _ (c .before .before .before .counts .given .1) (load .ensures .0)
-        (load .ensures .1) in
+    loaded-sheet (start .args .bytes .now) _ (c .before .before .before .counts .given .1) (load .ensures .0)
+    (load .ensures .1) in
     c .check-loaded .ensures ∙ loaded-answer l (start .args .places .now) (start .args .list .now)
 
 pub check-spec : {M : Type 1} → statement M

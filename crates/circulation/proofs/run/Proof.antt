@@ -43,20 +43,23 @@ saturate-requires c κs =
 count-need-requires : tie.Need-count-need-requires Inv-loop μ-loop
 count-need-requires c κs =
     let start = c .before .before .before .before .before .before .before .before .before .before .before .before .before .before .before .before .before in
-    let saturate = c .before .before .before .before .saturate in
-    (rw (saturate .kept .1 .0) (start .pre .wf),
-    λ i l. first-near (at (potentials (start .args .nodes .now))) (at (saturate .last .1 .0)) (start .pre .wf)
-    (start .pre .feasible) (saturate .ensures) i (omega (arith, saturate .kept .1 .0)))
+    let saturate = c .before .before .before .before .saturate in (
+      rw (saturate .kept .1 .0) (start .pre .wf),
+      λ i l. first-near (at (potentials (start .args .nodes .now))) (at (saturate .last .1 .0)) (start .pre .wf)
+          (start .pre .feasible) (saturate .ensures) i (omega (arith, saturate .kept .1 .0)),
+    )
 
 loop-holds : tie.Need-loop-holds Inv-loop μ-loop
 loop-holds c =
     let start = c .before .before .before .before .before .before .before .before .before .before .before .before .before .before .before .before .before .before .before .before in
     let saturate = c .before .before .before .before .before .before .before .saturate in
-    let count-need = c .before .before .count-need in
-    (run-start (start .args .arcs .now) (start .args .flows .now) (saturate .last .1 .0) (start .args .nodes .now)
-    (count-need .last .1 .1 .0) (start .pre) (saturate .kept .1 .0) (saturate .ensures) (count-need .ensures .0)
-    (count-need .ensures .1),
-    refl, refl)
+    let count-need = c .before .before .count-need in (
+      run-start (start .args .arcs .now) (start .args .flows .now) (saturate .last .1 .0) (start .args .nodes .now)
+          (count-need .last .1 .1 .0) (start .pre) (saturate .kept .1 .0) (saturate .ensures) (count-need .ensures .0)
+          (count-need .ensures .1),
+      refl,
+      refl,
+    )
 
 source-requires : tie.Need-source-requires Inv-loop μ-loop
 source-requires c κs = omega (arith, c .before .loop .inv .0 .wf .nodes, column-length 0 (c .before .loop .nodes))
@@ -93,21 +96,23 @@ returns c =
     let loop = c .before .before .before .before .loop in
     subst
     (λ (m : ℕ). Ends (net (start .args .arcs .now) m) (size (start .args .nodes .now)) (loop .flows) (loop .nodes))
-    (saturate .kept .1 .0)
-    (loop .inv .0,
-    subst (λ (n : ℕ). Balanced (net (start .args .arcs .now) (length (saturate .last .1 .0))) n (at (loop .flows)))
-    (column-length 0 (loop .nodes) ∙ ap (λ (k : ℕ). k / node-stride) (loop .inv .1 ∙ count-need .ensures .1 .length-same))
-    (solved (loop .inv .0)
-    (λ v l. (rw (c .enum-told .given .1) at (c .before .before .source .ensures)) v
-    (omega (arith, column-length 0 (loop .nodes)))) .1))
+    (saturate .kept .1 .0) (
+      loop .inv .0,
+      subst (λ (n : ℕ). Balanced (net (start .args .arcs .now) (length (saturate .last .1 .0))) n (at (loop .flows)))
+          (column-length 0 (loop .nodes) ∙ ap (λ (k : ℕ). k / node-stride) (loop .inv .1 ∙ count-need .ensures .1 .length-same))
+          (solved (loop .inv .0)
+          (λ v l. (rw (c .enum-told .given .1) at (c .before .before .source .ensures)) v
+          (omega (arith, column-length 0 (loop .nodes)))) .1),
+    )
 
 search-requires : tie.Need-search-requires Inv-loop μ-loop
 search-requires c κs =
     let loop = c .before .before .before .before .before .before .before .before .loop in
     let source = c .before .before .before .before .before .before .source in
-    let s = c .before .before .before .before .s in
-    (rw (loop .inv .0 .x-size) (loop .inv .0),
-    ((rw (s .given .1) at (source .ensures)) .0, (rw (s .given .1) at (source .ensures)) .1))
+    let s = c .before .before .before .before .s in (
+      rw (loop .inv .0 .x-size) (loop .inv .0),
+      ((rw (s .given .1) at (source .ensures)) .0, (rw (s .given .1) at (source .ensures)) .1),
+    )
 
 augment-requires : tie.Need-augment-requires Inv-loop μ-loop
 augment-requires c κs = c .before .before .before .before .before .before .search .ensures .reached
@@ -118,26 +123,29 @@ loop-less c =
     let loop = c .before .before .before .before .before .before .before .before .before .before .before .before .before .before .before .before .before .before .before .before .loop in
     let search = c .before .before .before .before .before .before .before .before .before .before .before .search in
     let augment = c .before .before .before .before .augment in
-    omega
-    (arith, augment .ensures .less,
-    ap (λ (k : ℕ). surplus k (at (column 1 (augment .last .1 .1 .0))))
-    (ap (λ (k : ℕ). k / node-stride) (augment .ensures .length-same ∙ (search .ensures .length-same ∙ loop .inv .1))),
-    ap (λ (k : ℕ). surplus k (at (column 1 (search .last .1 .1 .0))))
-    (ap (λ (k : ℕ). k / node-stride) (search .ensures .length-same ∙ loop .inv .1)),
-    ap (λ (l : List ℕ). surplus (length (count-need .last .1 .1 .0) / node-stride) (at l)) (search .ensures .needs-same))
+    omega (
+      arith,
+      augment .ensures .less,
+      ap (λ (k : ℕ). surplus k (at (column 1 (augment .last .1 .1 .0))))
+          (ap (λ (k : ℕ). k / node-stride) (augment .ensures .length-same ∙ (search .ensures .length-same ∙ loop .inv .1))),
+      ap (λ (k : ℕ). surplus k (at (column 1 (search .last .1 .1 .0))))
+          (ap (λ (k : ℕ). k / node-stride) (search .ensures .length-same ∙ loop .inv .1)),
+      ap (λ (l : List ℕ). surplus (length (count-need .last .1 .1 .0) / node-stride) (at l)) (search .ensures .needs-same),
+    )
 
 loop-again : tie.Need-loop-again Inv-loop μ-loop
 loop-again c =
     let start = c .before .before .before .before .before .before .before .before .before .before .before .before .before .before .before .before .before .before .before .before .before .before .before .before .before .before .before .before .before .before .before .before .before .before .before .before .before .before .before .before .before in
     let loop = c .before .before .before .before .before .before .before .before .before .before .before .before .before .before .before .before .before .before .before .before .loop in
     let search = c .before .before .before .before .before .before .before .before .before .before .before .search in
-    let augment = c .before .before .before .before .augment in
-    (subst
-    (λ (m : ℕ). State (net (start .args .arcs .now) m) (potentials (augment .last .1 .1 .0)) (augment .last .1 .0)
-    (column 1 (augment .last .1 .1 .0)))
-    (loop .inv .0 .x-size) (augment .ensures .state),
-    augment .ensures .length-same ∙ (search .ensures .length-same ∙ loop .inv .1),
-    search .kept .1 .1 .1 .0 ∙ loop .inv .2)
+    let augment = c .before .before .before .before .augment in (
+      subst
+          (λ (m : ℕ). State (net (start .args .arcs .now) m) (potentials (augment .last .1 .1 .0)) (augment .last .1 .0)
+          (column 1 (augment .last .1 .1 .0)))
+          (loop .inv .0 .x-size) (augment .ensures .state),
+      augment .ensures .length-same ∙ (search .ensures .length-same ∙ loop .inv .1),
+      search .kept .1 .1 .1 .0 ∙ loop .inv .2,
+    )
 
 pub run-spec : {M : Type 1} → statement M
 run-spec =

@@ -16,10 +16,13 @@ same-length : tie.Need-same-length
 same-length c = search needs
 
 returns : tie.Need-returns
-returns c =
-    ((λ v. tested-no (c .before .valid .result) (c .before .valid .ensures)
-    (not-true (c .before .valid .result) (c .if1 .taken)) v),
-    refl, refl, refl)
+returns c = (
+  (λ v. tested-no (c .before .valid .result) (c .before .valid .ensures)
+      (not-true (c .before .valid .result) (c .if1 .taken)) v),
+  refl,
+  refl,
+  refl,
+)
 
 count-of-requires : tie.Need-count-of-requires
 count-of-requires c κs = search needs

@@ -19,12 +19,13 @@ run-requires c κs = search needs
 flood-requires : tie.Need-flood-requires
 flood-requires c κs =
     let start = c .before .before .before .before .before .before .before .before .before .before .before .before .before .before .before .before .before in
-    let run = c .before .before .before .before .before .before .before .before .before .run in
-    (subst (λ (m : ℕ). StateAt (net (start .args .arcs .now) m) (run .last .1 .0) (run .last .1 .1 .0))
-    (sym (run .kept .1 .0)) (run .ensures .0),
-    subst (λ (m : ℕ). Rooted (net (start .args .arcs .now) m) (size (run .last .1 .1 .0))) (sym (run .kept .1 .0))
-    (subst (λ (n : ℕ). Rooted (net (start .args .arcs .now) (length (start .args .flows .now))) n)
-    (sym (ap (λ (k : ℕ). k / node-stride) (run .kept .1 .1 .0))) (start .pre .rooted)))
+    let run = c .before .before .before .before .before .before .before .before .before .run in (
+      subst (λ (m : ℕ). StateAt (net (start .args .arcs .now) m) (run .last .1 .0) (run .last .1 .1 .0))
+          (sym (run .kept .1 .0)) (run .ensures .0),
+      subst (λ (m : ℕ). Rooted (net (start .args .arcs .now) m) (size (run .last .1 .1 .0))) (sym (run .kept .1 .0))
+          (subst (λ (n : ℕ). Rooted (net (start .args .arcs .now) (length (start .args .flows .now))) n)
+          (sym (ap (λ (k : ℕ). k / node-stride) (run .kept .1 .1 .0))) (start .pre .rooted)),
+    )
 
 finish-requires : tie.Need-finish-requires
 finish-requires c κs =
@@ -56,20 +57,21 @@ returns c =
     let start = c .before .before .before .before .before .before .before .before .before .before .before .before .before .before .before .before .before .before .before .before .before .before .before .before .before .before .before .before .before in
     let run = c .before .before .before .before .before .before .before .before .before .before .before .before .before .before .before .before .before .before .before .before .before .run in
     let flood = c .before .before .before .before .before .before .before .before .before .before .before .flood in
-    let finish = c .before .before .before .before .finish in
-    (flooded-solution (net (start .args .arcs .now) (length (start .args .flows .now))) (size (start .args .nodes .now))
-    (run .last .1 .0) (flood .last .1 .1 .0) (finish .last .0) (start .pre .wf)
-    (ap (λ (k : ℕ). k / node-stride) (flood .kept .1 .1 .0 ∙ run .kept .1 .1 .0)) (run .ensures .1)
-    (subst
-    (λ (m : ℕ). Flooded (net (start .args .arcs .now) m) (size (start .args .nodes .now)) (run .last .1 .0)
-    (flood .last .1 .1 .0))
-    (run .kept .1 .0)
-    (subst
-    (λ (n : ℕ). Flooded (net (start .args .arcs .now) (length (run .last .1 .0))) n (run .last .1 .0)
-    (flood .last .1 .1 .0))
-    (ap (λ (k : ℕ). k / node-stride) (run .kept .1 .1 .0)) (flood .ensures)))
-    (finish .ensures .0),
-    (finish .ensures .1 .0, finish .ensures .1 .1))
+    let finish = c .before .before .before .before .finish in (
+      flooded-solution (net (start .args .arcs .now) (length (start .args .flows .now))) (size (start .args .nodes .now))
+          (run .last .1 .0) (flood .last .1 .1 .0) (finish .last .0) (start .pre .wf)
+          (ap (λ (k : ℕ). k / node-stride) (flood .kept .1 .1 .0 ∙ run .kept .1 .1 .0)) (run .ensures .1)
+          (subst
+          (λ (m : ℕ). Flooded (net (start .args .arcs .now) m) (size (start .args .nodes .now)) (run .last .1 .0)
+          (flood .last .1 .1 .0))
+          (run .kept .1 .0)
+          (subst
+          (λ (n : ℕ). Flooded (net (start .args .arcs .now) (length (run .last .1 .0))) n (run .last .1 .0)
+          (flood .last .1 .1 .0))
+          (ap (λ (k : ℕ). k / node-stride) (run .kept .1 .1 .0)) (flood .ensures)))
+          (finish .ensures .0),
+      (finish .ensures .1 .0, finish .ensures .1 .1),
+    )
 
 pub whole-spec : {M : Type 1} → statement M
 whole-spec =

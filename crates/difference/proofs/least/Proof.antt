@@ -14,10 +14,11 @@ well-formed-requires : tie.Need-well-formed-requires
 well-formed-requires c κs = search needs
 
 returns-2 : tie.Need-returns-2
-returns-2 c =
-    ((λ t. tested-no (c .before .well-formed .result) (c .before .well-formed .ensures)
-    (not-true (c .before .well-formed .result) (c .if2 .taken)) (t .wf)),
-    refl)
+returns-2 c = (
+  (λ t. tested-no (c .before .well-formed .result) (c .before .well-formed .ensures)
+      (not-true (c .before .well-formed .result) (c .if2 .taken)) (t .wf)),
+  refl,
+)
 
 sub-run : tie.Need-sub-run
 sub-run c = search needs

@@ -51,14 +51,15 @@ draw-within-requires : tie.Need-draw-within-requires
 draw-within-requires c κs =
     let start = c .before .before .before .before .before .before .before .before .before .before .before in
     let if1 = c .before .before .before .before .before .before .before .if1 in
-    let if2 = c .before .before .before .before .before .if2 in
-    (start .pre,
-    record {
-      flows-are = front-length (start .args .counts .arcs) _ (omega (arith, arcs-few (start .pre)));
-      nodes-are = front-length _ _ (omega (arith, nodes-few (start .pre)));
-      places-enough = omega (arith, if1 .left);
-      list-enough = omega (arith, if2 .left);
-    })
+    let if2 = c .before .before .before .before .before .if2 in (
+      start .pre,
+      record {
+        flows-are = front-length (start .args .counts .arcs) _ (omega (arith, arcs-few (start .pre)));
+        nodes-are = front-length _ _ (omega (arith, nodes-few (start .pre)));
+        places-enough = omega (arith, if1 .left);
+        list-enough = omega (arith, if2 .left);
+      },
+    )
 
 same-length : tie.Need-same-length
 same-length c = search needs

@@ -26,11 +26,12 @@ returns : tie.Need-returns
 returns c =
     let start = c .before .before .before .before .before .before in
     let a =
-        (read-settled (now (start .args .bytes)) _ (c .before .before .before .walk-bytes .ensures)
-        (c .before .before .settle .ensures)) in
-    (a,
-    refused-kept (reading magic sheet (now (start .args .bytes))) (now (start .args .numbers)) a
-    (c .enum-told .given .1))
+    (read-settled (now (start .args .bytes)) _ (c .before .before .before .walk-bytes .ensures)
+    (c .before .before .settle .ensures)) in (
+      a,
+      refused-kept (reading magic sheet (now (start .args .bytes))) (now (start .args .numbers)) a
+          (c .enum-told .given .1),
+    )
 
 fill-requires : tie.Need-fill-requires
 fill-requires c κs =
@@ -48,10 +49,11 @@ returns-2 c =
     let start = c .before .before .before .before .before .before .before .before .before .before .before in
     let walk-bytes = c .before .before .before .before .before .before .before .before .walk-bytes in
     let settle = c .before .before .before .before .before .before .before .settle in
-    let answer = c .before .before .before .before .before .answer in
-    (ap outcome (sym (answer .given .1))
-    ∙ read-settled (now (start .args .bytes)) _ (walk-bytes .ensures) (settle .ensures),
-    c .before .before .fill .ensures)
+    let answer = c .before .before .before .before .before .answer in (
+      ap outcome (sym (answer .given .1))
+          ∙ read-settled (now (start .args .bytes)) _ (walk-bytes .ensures) (settle .ensures),
+      c .before .before .fill .ensures,
+    )
 
 pub read-spec : {M : Type 1} → statement M
 read-spec =

@@ -25,19 +25,20 @@ returns : tie.Need-returns
 returns c =
     let start = c .before .before .before .before .before .before in
     let a =
-        (write-settled (now (start .args .numbers)) _ (c .before .before .before .walk-list .ensures)
-        (c .before .before .settle .ensures)) in
-    (a,
-    refused-kept (writing magic sheet (now (start .args .numbers))) (now (start .args .bytes)) a
-    (c .enum-told2 .given .1))
+    (write-settled (now (start .args .numbers)) _ (c .before .before .before .walk-list .ensures)
+    (c .before .before .settle .ensures)) in (
+      a,
+      refused-kept (writing magic sheet (now (start .args .numbers))) (now (start .args .bytes)) a
+          (c .enum-told2 .given .1),
+    )
 
 put-sheet-requires : tie.Need-put-sheet-requires
 put-sheet-requires c κs =
     let start = c .before .before .before .before .before .before .before in
     let walk-list = c .before .before .before .before .walk-list in
     let w =
-        write-done (now (start .args .bytes)) (c .before .enum-told .given .1) (now (start .args .numbers))
-        (write-settled (now (start .args .numbers)) _ (walk-list .ensures) (c .before .before .before .settle .ensures)) in
+    write-done (now (start .args .bytes)) (c .before .enum-told .given .1) (now (start .args .numbers))
+    (write-settled (now (start .args .numbers)) _ (walk-list .ensures) (c .before .before .before .settle .ensures)) in
     (w .1, w .2)
 
 same-length : tie.Need-same-length
@@ -49,10 +50,11 @@ returns-2 c =
     let walk-list = c .before .before .before .before .before .before .before .walk-list in
     let settle = c .before .before .before .before .before .before .settle in
     let enum-told = c .before .before .before .before .enum-told in
-    let a = (write-settled (now (start .args .numbers)) _ (walk-list .ensures) (settle .ensures)) in
-    (a,
-    write-filled (now (start .args .bytes)) (enum-told .given .1) (now (start .args .numbers)) a
-    (c .before .before .put-sheet .ensures))
+    let a = (write-settled (now (start .args .numbers)) _ (walk-list .ensures) (settle .ensures)) in (
+      a,
+      write-filled (now (start .args .bytes)) (enum-told .given .1) (now (start .args .numbers)) a
+          (c .before .before .put-sheet .ensures),
+    )
 
 pub write-spec : {M : Type 1} → statement M
 write-spec =

@@ -20,9 +20,10 @@ loop-holds c =
 
 put-edge-requires : tie.Need-put-edge-requires Inv-loop μ-loop
 put-edge-requires c κs =
-    let loop = c .before .before .loop in
-    (edge-good (loop .inv) (c .before .loop-test .taken),
-    omega (arith, loop .inv .inside, loop .inv .room, loop .inv .left .size))
+    let loop = c .before .before .loop in (
+      edge-good (loop .inv) (c .before .loop-test .taken),
+      omega (arith, loop .inv .inside, loop .inv .room, loop .inv .left .size),
+    )
 
 sub-todo : tie.Need-sub-todo Inv-loop μ-loop
 sub-todo c = search needs

@@ -22,19 +22,27 @@ part-put-edges-end c = search needs
 
 put-edges-requires : tie.Need-put-edges-requires
 put-edges-requires c κs =
-    let start = c .before .before .before .before .before .before in
-    (edges-good (start .pre .0) (start .pre .1 .0),
-    (edges-there (start .pre .0) (start .pre .1 .0) .0, omega (arith, start .pre .1 .1)))
+    let start = c .before .before .before .before .before .before in (
+      edges-good (start .pre .0) (start .pre .1 .0),
+      (edges-there (start .pre .0) (start .pre .1 .0) .0, omega (arith, start .pre .1 .1)),
+    )
 
 put-layers-requires : tie.Need-put-layers-requires
 put-layers-requires c κs =
     let start = c .before .before .before .before .before .before .before .before .before .before in
-    let put-edges = c .before .before .before .put-edges in
-    (layers-good (start .pre .0) (start .pre .1 .0),
-    ((start .pre .0 .head, nodes-few (start .pre .0) (start .pre .1 .0), start .pre .1 .1 .0),
-    omega
-    (arith, layers-room (start .pre .0) (start .pre .1 .0) (start .args .width),
-    edges-end (start .pre .0) (start .pre .1 .0) (put-edges .ensures), put-edges .ensures .size, start .pre .1 .1)))
+    let put-edges = c .before .before .before .put-edges in (
+      layers-good (start .pre .0) (start .pre .1 .0),
+      (
+        (start .pre .0 .head, nodes-few (start .pre .0) (start .pre .1 .0), start .pre .1 .1 .0),
+        omega (
+          arith,
+          layers-room (start .pre .0) (start .pre .1 .0) (start .args .width),
+          edges-end (start .pre .0) (start .pre .1 .0) (put-edges .ensures),
+          put-edges .ensures .size,
+          start .pre .1 .1,
+        ),
+      ),
+    )
 
 same-length : tie.Need-same-length
 same-length c = search needs

@@ -32,14 +32,18 @@ put-pairs-requires : tie.Need-put-pairs-requires
 put-pairs-requires c κs =
     let start = c .before .before .before .before .before .before .before .before .before in
     let number = c .before .before .before .before .before .before .number in
-    let put-arc = c .before .before .before .put-arc in
-    (omega (arith, layer-there (start .args .at) (start .args .numbers .now) (start .pre .0) (number .ensures)),
-    omega (arith, count-few (start .args .at) (start .args .numbers .now) (start .pre .0) (number .ensures)),
-    omega
-    (arith, count-few (start .args .at) (start .args .numbers .now) (start .pre .0) (number .ensures),
-    count-room (start .args .at) (start .args .numbers .now) (start .pre .0) (number .ensures) (start .args .n) _
-    (start .pre .1 .2),
-    put-arc .ensures .count, put-arc .ensures .size))
+    let put-arc = c .before .before .before .put-arc in (
+      omega (arith, layer-there (start .args .at) (start .args .numbers .now) (start .pre .0) (number .ensures)),
+      omega (arith, count-few (start .args .at) (start .args .numbers .now) (start .pre .0) (number .ensures)),
+      omega (
+        arith,
+        count-few (start .args .at) (start .args .numbers .now) (start .pre .0) (number .ensures),
+        count-room (start .args .at) (start .args .numbers .now) (start .pre .0) (number .ensures) (start .args .n) _
+            (start .pre .1 .2),
+        put-arc .ensures .count,
+        put-arc .ensures .size,
+      ),
+    )
 
 sub-upper-bound : tie.Need-sub-upper-bound
 sub-upper-bound c =
@@ -68,13 +72,16 @@ put-arc-requires-2 c κs =
     let number = c .before .before .before .before .before .before .before .before .before .before .before .number in
     let put-arc = c .before .before .before .before .before .before .before .before .put-arc in
     let put-pairs = c .before .before .before .before .put-pairs in
-    omega
-    (arith, count-few (start .args .at) (start .args .numbers .now) (start .pre .0) (number .ensures),
-    count-room (start .args .at) (start .args .numbers .now) (start .pre .0) (number .ensures) (start .args .n) _
-    (start .pre .1 .2),
-    put-arc .ensures .count, put-arc .ensures .size,
-    pairs-size (start .args .at) (start .args .numbers .now) (start .pre .0) (number .ensures) (put-pairs .ensures),
-    put-pairs .ensures .size)
+    omega (
+      arith,
+      count-few (start .args .at) (start .args .numbers .now) (start .pre .0) (number .ensures),
+      count-room (start .args .at) (start .args .numbers .now) (start .pre .0) (number .ensures) (start .args .n) _
+          (start .pre .1 .2),
+      put-arc .ensures .count,
+      put-arc .ensures .size,
+      pairs-size (start .args .at) (start .args .numbers .now) (start .pre .0) (number .ensures) (put-pairs .ensures),
+      put-pairs .ensures .size,
+    )
 
 same-length : tie.Need-same-length
 same-length c = search needs

@@ -23,10 +23,14 @@ put-layer-requires : tie.Need-put-layer-requires Inv-loop μ-loop
 put-layer-requires c κs =
     let start = c .before .before .before .before .before .before in
     let loop = c .before .before .before .loop in
-    let loop-test = c .before .before .loop-test in
-    (next-good (loop .inv .here) (loop-test .taken),
-    (start .pre .1 .0 .1, start .pre .1 .0 .2,
-    omega (arith, layer-room (loop .inv) (loop-test .taken), loop .inv .left .size, start .pre .1 .1)))
+    let loop-test = c .before .before .loop-test in (
+      next-good (loop .inv .here) (loop-test .taken),
+      (
+        start .pre .1 .0 .1,
+        start .pre .1 .0 .2,
+        omega (arith, layer-room (loop .inv) (loop-test .taken), loop .inv .left .size, start .pre .1 .1),
+      ),
+    )
 
 sub-todo : tie.Need-sub-todo Inv-loop μ-loop
 sub-todo c = search needs

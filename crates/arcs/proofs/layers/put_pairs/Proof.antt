@@ -19,9 +19,11 @@ loop-holds c = record { inside = omega arith; room = refl; left = filling-begin 
 
 put-pair-requires : tie.Need-put-pair-requires Inv-loop μ-loop
 put-pair-requires c κs =
-    let loop = c .before .before .loop in
-    (omega (arith, loop .inv .inside), omega (arith, loop .inv .inside),
-    omega (arith, loop .inv .room, loop .inv .left .size))
+    let loop = c .before .before .loop in (
+      omega (arith, loop .inv .inside),
+      omega (arith, loop .inv .inside),
+      omega (arith, loop .inv .room, loop .inv .left .size),
+    )
 
 sub-todo : tie.Need-sub-todo Inv-loop μ-loop
 sub-todo c = search needs

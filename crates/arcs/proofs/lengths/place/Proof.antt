@@ -22,7 +22,7 @@ returns-2 : tie.Need-returns-2
 returns-2 c =
     record {
       is = sym
-      (List·getD-eq-default (c .before .before .args .places .now) 0 {n = c .before .before .args .v} (omega arith));
+          (List·getD-eq-default (c .before .before .args .places .now) 0 {n = c .before .before .args .v} (omega arith));
       fits = omega arith;
     }
 

@@ -40,17 +40,19 @@ layer-size-requires c κs =
 
 add-at : tie.Need-add-at Inv-loop μ-loop
 add-at c =
-    omega
-    (arith,
-    next-ends (c .before .before .before .loop .inv .here) (c .before .before .loop-test .taken)
-    (c .before .number .ensures) (c .layer-size .ensures))
+    omega (
+      arith,
+      next-ends (c .before .before .before .loop .inv .here) (c .before .before .loop-test .taken)
+          (c .before .number .ensures) (c .layer-size .ensures),
+    )
 
 add-v : tie.Need-add-v Inv-loop μ-loop
 add-v c =
-    omega
-    (arith,
-    next-few (c .before .before .before .loop .inv .here) (c .before .before .loop-test .taken)
-    (c .before .number .ensures))
+    omega (
+      arith,
+      next-few (c .before .before .before .loop .inv .here) (c .before .before .loop-test .taken)
+          (c .before .number .ensures),
+    )
 
 loop-less : tie.Need-loop-less Inv-loop μ-loop
 loop-less c = omega arith

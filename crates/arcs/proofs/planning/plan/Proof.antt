@@ -10,9 +10,10 @@ number-requires c κs = search needs
 
 first-nodes-requires : tie.Need-first-nodes-requires
 first-nodes-requires c κs =
-    let start = c .before .before .before .before in
-    (layers-good (start .pre .0) (c .before .number .ensures),
-    (start .pre .0 .head, omega (arith, layers-few (start .pre .0) (c .before .number .ensures), start .pre .1)))
+    let start = c .before .before .before .before in (
+      layers-good (start .pre .0) (c .before .number .ensures),
+      (start .pre .0 .head, omega (arith, layers-few (start .pre .0) (c .before .number .ensures), start .pre .1)),
+    )
 
 mul-wide : tie.Need-mul-wide
 mul-wide c = search needs
@@ -21,9 +22,12 @@ slice-read-wide : tie.Need-slice-read-wide
 slice-read-wide c =
     let start = c .before .before .before .before .before .before .before .before in
     let number = c .before .before .before .before .before .number in
-    omega
-    (arith, layers-few (start .pre .0) (number .ensures), c .before .before .before .first-nodes .ensures .size,
-    start .pre .1)
+    omega (
+      arith,
+      layers-few (start .pre .0) (number .ensures),
+      c .before .before .before .first-nodes .ensures .size,
+      start .pre .1,
+    )
 
 wide-requires : tie.Need-wide-requires
 wide-requires c κs = search needs

@@ -26,23 +26,27 @@ lowered-requires c κs = search needs
 product-requires : tie.Need-product-requires
 product-requires c κs =
     let start = c .before .before .before .before in
-    omega
-    (arith,
-    ap natAbs (read (c .lowered .result) (omega (arith, c .lowered .ensures .1, c .before .part .ensures .fits))),
-    c .lowered .ensures .1, c .before .part .ensures .is, start .pre .0 .kink)
+    omega (
+      arith,
+      ap natAbs (read (c .lowered .result) (omega (arith, c .lowered .ensures .1, c .before .part .ensures .fits))),
+      c .lowered .ensures .1,
+      c .before .part .ensures .is,
+      start .pre .0 .kink,
+    )
 
 returns : tie.Need-returns
 returns c =
     let start = c .before .before .before .before .before in
     let part = c .before .before .part in
     let f = read (c .product .result) (omega (arith, c .product .ensures .1)) in
-    let k = read (c .before .lowered .result) (omega (arith, c .before .lowered .ensures .1, part .ensures .fits)) in
-    (f
-    ∙ c .product .ensures .0
-    ∙ ap₂ _*ℤ_
-    (element w32 (getD (start .args .list .now) (start .args .i) (pos 0)) (c .before .before .before .product-arg .given))
-    (k ∙ c .before .lowered .ensures .0 ∙ ap (λ (n : ℕ). pos n -ℤ pos kink-zero) (part .ensures .is)),
-    omega (arith, ap natAbs f, c .product .ensures .1))
+    let k = read (c .before .lowered .result) (omega (arith, c .before .lowered .ensures .1, part .ensures .fits)) in (
+      f
+          ∙ c .product .ensures .0
+          ∙ ap₂ _*ℤ_
+          (element w32 (getD (start .args .list .now) (start .args .i) (pos 0)) (c .before .before .before .product-arg .given))
+          (k ∙ c .before .lowered .ensures .0 ∙ ap (λ (n : ℕ). pos n -ℤ pos kink-zero) (part .ensures .is)),
+      omega (arith, ap natAbs f, c .product .ensures .1),
+    )
 
 pub term-spec : {M : Type 1} → statement M
 term-spec =

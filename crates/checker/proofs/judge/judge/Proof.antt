@@ -29,10 +29,13 @@ part-judge-whole-end-2 c = search needs
 
 judge-whole-requires : tie.Need-judge-whole-requires
 judge-whole-requires c κs =
-    let s = c .before .before .before .before in
-    (s .pre .0,
-    (omega (arith, front-length (s .args .counts .arcs) (s .args .list .now) (s .pre .1 .0)),
-    front-length (s .args .counts .nodes) (s .args .places .now) (s .pre .1 .1)))
+    let s = c .before .before .before .before in (
+      s .pre .0,
+      (
+        omega (arith, front-length (s .args .counts .arcs) (s .args .list .now) (s .pre .1 .0)),
+        front-length (s .args .counts .nodes) (s .args .places .now) (s .pre .1 .1),
+      ),
+    )
 
 returns : tie.Need-returns
 returns c =

@@ -18,9 +18,10 @@ loop-holds c = count-begin _ _ _ _ (c .before .pre .1 .1)
 bring-requires : tie.Need-bring-requires Inv-loop μ-loop
 bring-requires c κs =
     let start = c .before .before .before .before in
-    let loop = c .before .before .loop in
-    (start .pre .0 .arcs (loop .i) (omega arith),
-    (omega arith, λ u l. omega (arith, loop .inv .small u l, loop .inv .turns, start .pre .0 .few)))
+    let loop = c .before .before .loop in (
+      start .pre .0 .arcs (loop .i) (omega arith),
+      (omega arith, λ u l. omega (arith, loop .inv .small u l, loop .inv .turns, start .pre .0 .few)),
+    )
 
 add-i : tie.Need-add-i Inv-loop μ-loop
 add-i c = omega (arith, c .before .before .before .before .loop .inv .turns)

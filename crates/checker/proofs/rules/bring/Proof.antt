@@ -25,9 +25,10 @@ widen-requires c κs = search needs
 
 shift-requires : tie.Need-shift-requires
 shift-requires c κs =
-    let start = c .before .before .before .before .before in
-    ((λ u l. omega (arith, start .pre .1 .1 u l)),
-    omega (arith, ap natAbs (read (c .widen .result) (omega (arith, c .widen .ensures .1))), c .widen .ensures .1))
+    let start = c .before .before .before .before .before in (
+      (λ u l. omega (arith, start .pre .1 .1 u l)),
+      omega (arith, ap natAbs (read (c .widen .result) (omega (arith, c .widen .ensures .1))), c .widen .ensures .1),
+    )
 
 part-requires-2 : tie.Need-part-requires-2
 part-requires-2 c κs = search needs
@@ -45,14 +46,16 @@ shift-requires-2 : tie.Need-shift-requires-2
 shift-requires-2 c κs =
     let start = c .before .before .before .before .before .before .before .before .before .before .before in
     let widen = c .before .before .before .before .before .before .widen in
-    let shift = c .before .before .before .before .before .shift in
-    ((λ u l. omega
-    (arith,
-    shifted-within balance-size amount-size (start .pre .1 .1)
-    (omega (arith, ap natAbs (read (widen .result) (omega (arith, widen .ensures .1))), widen .ensures .1))
-    (shift .ensures) u l)),
-    omega
-    (arith, ap natAbs (read (c .opposite .result) (omega (arith, c .opposite .ensures .1))), c .opposite .ensures .1))
+    let shift = c .before .before .before .before .before .shift in (
+      (λ u l. omega (
+        arith,
+        shifted-within balance-size amount-size (start .pre .1 .1)
+            (omega (arith, ap natAbs (read (widen .result) (omega (arith, widen .ensures .1))), widen .ensures .1))
+            (shift .ensures) u l,
+      )),
+      omega
+          (arith, ap natAbs (read (c .opposite .result) (omega (arith, c .opposite .ensures .1))), c .opposite .ensures .1),
+    )
 
 same-length : tie.Need-same-length
 same-length c = search needs

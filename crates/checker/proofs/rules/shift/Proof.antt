@@ -21,10 +21,13 @@ slice-copy-out-plus c = search needs
 plus-requires : tie.Need-plus-requires
 plus-requires c κs =
     let s = c .before .before in
-    omega
-    (arith, ap natAbs (element w64 (getD (s .args .balance .now) (s .args .v) (pos 0)) (c .plus-arg .given)),
-    ap natAbs (toZ-ofZ {w = w64} {z = s .args .x} (s .fits .x)), s .pre .0 (s .args .v) (c .before .if1 .taken),
-    s .pre .1)
+    omega (
+      arith,
+      ap natAbs (element w64 (getD (s .args .balance .now) (s .args .v) (pos 0)) (c .plus-arg .given)),
+      ap natAbs (toZ-ofZ {w = w64} {z = s .args .x} (s .fits .x)),
+      s .pre .0 (s .args .v) (c .before .if1 .taken),
+      s .pre .1,
+    )
 
 mul-t10 : tie.Need-mul-t10
 mul-t10 c = search needs
@@ -41,8 +44,8 @@ returns c =
     let s = c .before .before .before in
     let old : ℤ = getD (s .args .balance .now) (s .args .v) (pos 0) in
     let e : c .plus .result ≡ old +ℤ s .args .x =
-        c .plus .ensures
-        ∙ ap₂ _+ℤ_ (element w64 old (c .before .plus-arg .given)) (toZ-ofZ {w = w64} {z = s .args .x} (s .fits .x)) in
+    c .plus .ensures
+    ∙ ap₂ _+ℤ_ (element w64 old (c .before .plus-arg .given)) (toZ-ofZ {w = w64} {z = s .args .x} (s .fits .x)) in
     shifted (s .args .balance .now) (s .args .v) (s .args .x) _ (if1 .taken)
     (pass e (omega (arith, size-add old (s .args .x), s .pre .0 (s .args .v) (if1 .taken), s .pre .1)))
 

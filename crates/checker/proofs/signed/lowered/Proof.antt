@@ -15,17 +15,19 @@ signed-requires-2 c κs = search needs
 
 less-requires : tie.Need-less-requires
 less-requires c κs =
-    omega
-    (arith, ap natAbs (pass (c .before .signed .ensures) (omega arith)),
-    ap natAbs (pass (c .signed2 .ensures) (omega arith)))
+    omega (
+      arith,
+      ap natAbs (pass (c .before .signed .ensures) (omega arith)),
+      ap natAbs (pass (c .signed2 .ensures) (omega arith)),
+    )
 
 returns : tie.Need-returns
 returns c =
     let start = c .before .before .before in
     let e : c .less .result ≡ pos (start .args .n) -ℤ pos (start .args .added) =
-        c .less .ensures
-        ∙ ap₂ _-ℤ_ (pass (c .before .before .signed .ensures) (omega arith))
-        (pass (c .before .signed2 .ensures) (omega arith)) in
+    c .less .ensures
+    ∙ ap₂ _-ℤ_ (pass (c .before .before .signed .ensures) (omega arith))
+    (pass (c .before .signed2 .ensures) (omega arith)) in
     let f = pass e (omega (arith, difference-size (start .args .n) (start .args .added))) in
     (f, omega (arith, ap natAbs f, difference-size (start .args .n) (start .args .added)))
 

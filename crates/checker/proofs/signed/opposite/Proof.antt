@@ -20,9 +20,9 @@ sub-result c =
 returns : tie.Need-returns
 returns c =
     let e =
-        toZ-ofZ (sub-result c)
-        ∙ ap (λ (a : ℤ). pos 0 -ℤ a) (widened (c .fits .amount))
-        ∙ +ℤ-idl (negℤ (c .args .amount)) in
+    toZ-ofZ (sub-result c)
+    ∙ ap (λ (a : ℤ). pos 0 -ℤ a) (widened (c .fits .amount))
+    ∙ +ℤ-idl (negℤ (c .args .amount)) in
     (e, omega (arith, ap natAbs e, size-neg (c .args .amount), fits-size (c .fits .amount)))
 
 pub opposite-spec : {M : Type 1} → statement M

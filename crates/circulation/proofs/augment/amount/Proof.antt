@@ -22,7 +22,7 @@ returns c =
     let get = c .before .before .get in
     record {
       some = c .least .ensures .2 (omega (arith, get .ensures, start .pre .2))
-      (omega (arith, c .before .get2 .ensures, start .pre .3));
+          (omega (arith, c .before .get2 .ensures, start .pre .3));
       room-fits = omega (arith, c .least .ensures .1, c .before .get2 .ensures);
       spare-fits = omega (arith, c .least .ensures .0, get .ensures, start .pre .2);
     }

@@ -9,10 +9,12 @@ use Rattle.circulation.proofs.augment.augment.Tie as tie
 
 amount-requires : tie.Need-amount-requires
 amount-requires c κs =
-    let start = c .before .before .before .before in
-    (omega (arith, start .pre .state .wf .nodes, column-length 0 (start .args .nodes .now)),
-    omega (arith, start .pre .t-in, column-length 0 (start .args .nodes .now)), start .pre .deficit,
-    end-room (start .pre))
+    let start = c .before .before .before .before in (
+      omega (arith, start .pre .state .wf .nodes, column-length 0 (start .args .nodes .now)),
+      omega (arith, start .pre .t-in, column-length 0 (start .args .nodes .now)),
+      start .pre .deficit,
+      end-room (start .pre),
+    )
 
 walk-requires : tie.Need-walk-requires
 walk-requires c κs =
@@ -22,12 +24,17 @@ walk-requires c κs =
 charge-requires : tie.Need-charge-requires
 charge-requires c κs =
     let start = c .before .before .before .before .before .before .before .before .before .before .before in
-    let amount = c .before .before .before .before .before .before .amount in
-    ((omega (arith, start .pre .tree .s-in, column-length 0 (start .args .nodes .now)),
-    omega (arith, start .pre .t-in, column-length 0 (start .args .nodes .now)),
-    omega (arith, start .pre .state .wf .nodes, column-length 0 (start .args .nodes .now))),
-    (omega (arith, amount .ensures .spare-fits),
-    omega (arith, amount-most (start .pre) (amount .result) (amount .ensures) .0)))
+    let amount = c .before .before .before .before .before .before .amount in (
+      (
+        omega (arith, start .pre .tree .s-in, column-length 0 (start .args .nodes .now)),
+        omega (arith, start .pre .t-in, column-length 0 (start .args .nodes .now)),
+        omega (arith, start .pre .state .wf .nodes, column-length 0 (start .args .nodes .now)),
+      ),
+      (
+        omega (arith, amount .ensures .spare-fits),
+        omega (arith, amount-most (start .pre) (amount .result) (amount .ensures) .0),
+      ),
+    )
 
 same-length : tie.Need-same-length
 same-length c = search needs

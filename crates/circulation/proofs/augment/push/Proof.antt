@@ -22,18 +22,24 @@ add-set-flow : tie.Need-add-set-flow
 add-set-flow c =
     let start = c .before .before .before .before .before .before .before .before in
     let tail-of = c .before .before .before .before .before .tail-of in
-    omega
-    (arith, c .before .before .before .flow-of .ensures,
-    start .pre .up (sym (tail-of .ensures) ∙ c .before .before .if1 .taken))
+    omega (
+      arith,
+      c .before .before .before .flow-of .ensures,
+      start .pre .up (sym (tail-of .ensures) ∙ c .before .before .if1 .taken),
+    )
 
 set-flow-requires : tie.Need-set-flow-requires
 set-flow-requires c κs =
     let start = c .before .before .before .before .before .before .before .before in
-    let tail-of = c .before .before .before .before .before .tail-of in
-    (start .pre .i-x, start .pre .i-in,
-    omega
-    (arith, c .before .before .before .flow-of .ensures,
-    start .pre .up (sym (tail-of .ensures) ∙ c .before .before .if1 .taken)))
+    let tail-of = c .before .before .before .before .before .tail-of in (
+      start .pre .i-x,
+      start .pre .i-in,
+      omega (
+        arith,
+        c .before .before .before .flow-of .ensures,
+        start .pre .up (sym (tail-of .ensures) ∙ c .before .before .if1 .taken),
+      ),
+    )
 
 same-length : tie.Need-same-length
 same-length c = search needs
@@ -46,10 +52,11 @@ returns c =
     let if1 = c .before .before .before .before .before .if1 in
     let head-of = c .before .before .before .before .head-of in
     record {
-      up = λ is.
-      (head-of .ensures,
-      c .before .before .set-flow .ensures
-      ∙ ap (λ (b : ℕ). set (start .args .flows .now) (start .args .i) (b + start .args .d)) (flow-of .ensures));
+      up = λ is. (
+        head-of .ensures,
+        c .before .before .set-flow .ensures
+            ∙ ap (λ (b : ℕ). set (start .args .flows .now) (start .args .i) (b + start .args .d)) (flow-of .ensures),
+      );
       down = λ ne. absurd (ne (sym (tail-of .ensures) ∙ if1 .taken));
     }
 
@@ -57,18 +64,24 @@ sub-set-flow : tie.Need-sub-set-flow
 sub-set-flow c =
     let start = c .before .before .before .before .before .before .before in
     let tail-of = c .before .before .before .before .tail-of in
-    omega
-    (arith, c .before .before .flow-of .ensures,
-    start .pre .down (λ is. c .before .if1 .left (tail-of .ensures ∙ is)) .0)
+    omega (
+      arith,
+      c .before .before .flow-of .ensures,
+      start .pre .down (λ is. c .before .if1 .left (tail-of .ensures ∙ is)) .0,
+    )
 
 set-flow-requires-2 : tie.Need-set-flow-requires-2
 set-flow-requires-2 c κs =
     let start = c .before .before .before .before .before .before .before in
-    let tail-of = c .before .before .before .before .tail-of in
-    (start .pre .i-x, start .pre .i-in,
-    omega
-    (arith, c .before .before .flow-of .ensures,
-    start .pre .down (λ is. c .before .if1 .left (tail-of .ensures ∙ is)) .1))
+    let tail-of = c .before .before .before .before .tail-of in (
+      start .pre .i-x,
+      start .pre .i-in,
+      omega (
+        arith,
+        c .before .before .flow-of .ensures,
+        start .pre .down (λ is. c .before .if1 .left (tail-of .ensures ∙ is)) .1,
+      ),
+    )
 
 same-length-2 : tie.Need-same-length-2
 same-length-2 c = search needs
@@ -81,10 +94,11 @@ returns-2 c =
     let if1 = c .before .before .before .before .if1 in
     record {
       up = λ is. absurd (if1 .left (tail-of .ensures ∙ is));
-      down = λ ne.
-      (tail-of .ensures,
-      c .before .before .set-flow2 .ensures
-      ∙ ap (λ (b : ℕ). set (start .args .flows .now) (start .args .i) (b - start .args .d)) (flow-of .ensures));
+      down = λ ne. (
+        tail-of .ensures,
+        c .before .before .set-flow2 .ensures
+            ∙ ap (λ (b : ℕ). set (start .args .flows .now) (start .args .i) (b - start .args .d)) (flow-of .ensures),
+      );
     }
 
 pub push-spec : {M : Type 1} → statement M

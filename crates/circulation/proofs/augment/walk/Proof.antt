@@ -25,9 +25,11 @@ loop-holds c = walk-start (c .before .before .before .pre .0) (c .before .before
 get-requires : tie.Need-get-requires Inv-loop μ-loop
 get-requires c κs =
     let start = c .before .before .before .before .before .before in
-    let loop = c .before .before .loop in
-    (omega (arith, loop .inv .v-in, column-length 0 (start .args .nodes .now)),
-    omega (arith, loop .inv .v-in, start .pre .0 .state .wf .nodes), omega arith)
+    let loop = c .before .before .loop in (
+      omega (arith, loop .inv .v-in, column-length 0 (start .args .nodes .now)),
+      omega (arith, loop .inv .v-in, start .pre .0 .state .wf .nodes),
+      omega arith,
+    )
 
 push-requires : tie.Need-push-requires Inv-loop μ-loop
 push-requires c κs =

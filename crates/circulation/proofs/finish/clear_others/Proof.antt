@@ -26,9 +26,11 @@ loop-holds c = (zeroed-start (c .before .args .nodes .now), refl, refl, omega ar
 
 fill-requires : tie.Need-fill-requires Inv-loop μ-loop
 fill-requires c κs =
-    let start = c .before .before .before .before in
-    (omega (arith, start .pre, c .before .before .loop .inv .2), omega (arith, c .before .loop-test .taken),
-    omega arith)
+    let start = c .before .before .before .before in (
+      omega (arith, start .pre, c .before .before .loop .inv .2),
+      omega (arith, c .before .loop-test .taken),
+      omega arith,
+    )
 
 add-k : tie.Need-add-k Inv-loop μ-loop
 add-k c = omega (arith, c .before .before .before .before .loop-test .taken)
@@ -40,20 +42,24 @@ loop-again : tie.Need-loop-again Inv-loop μ-loop
 loop-again c =
     let loop = c .before .before .before .before .before .loop in
     let loop-test = c .before .before .before .before .loop-test in
-    let fill = c .before .before .fill in
-    (zeroed-next (omega (arith, loop-test .taken)) (loop .inv .0) (fill-zeros (fill .ensures .0) (fill .ensures .1))
-    (fill .ensures .1),
-    fill .ensures .1 .others 0 (omega arith) (λ e. omega (arith, loop .inv .3)) ∙ loop .inv .1,
-    fill .ensures .1 .length-same ∙ loop .inv .2, omega arith, omega (arith, loop-test .taken))
+    let fill = c .before .before .fill in (
+      zeroed-next (omega (arith, loop-test .taken)) (loop .inv .0) (fill-zeros (fill .ensures .0) (fill .ensures .1))
+          (fill .ensures .1),
+      fill .ensures .1 .others 0 (omega arith) (λ e. omega (arith, loop .inv .3)) ∙ loop .inv .1,
+      fill .ensures .1 .length-same ∙ loop .inv .2,
+      omega arith,
+      omega (arith, loop-test .taken),
+    )
 
 same-length : tie.Need-same-length Inv-loop μ-loop
 same-length c = c .before .loop .inv .2
 
 returns : tie.Need-returns Inv-loop μ-loop
-returns c =
-    (subst (λ (k : ℕ). Zeroed k (c .before .loop .nodes)) (omega (arith, c .loop-test .left, c .before .loop .inv .4))
-    (c .before .loop .inv .0),
-    c .before .loop .inv .1)
+returns c = (
+  subst (λ (k : ℕ). Zeroed k (c .before .loop .nodes)) (omega (arith, c .loop-test .left, c .before .loop .inv .4))
+      (c .before .loop .inv .0),
+  c .before .loop .inv .1,
+)
 
 pub clear-others-spec : {M : Type 1} → statement M
 clear-others-spec =

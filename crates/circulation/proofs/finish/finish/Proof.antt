@@ -22,9 +22,10 @@ same-length-2 c = search needs
 returns : tie.Need-returns
 returns c =
     let settle = c .before .before .before .before .before .before .before .before .before .before .settle in
-    let clear-others = c .before .before .before .before .before .before .clear-others in
-    (settled-same (settle .ensures) (clear-others .ensures .1),
-    (clear-others .ensures .0, c .before .before .erase .ensures))
+    let clear-others = c .before .before .before .before .before .before .clear-others in (
+      settled-same (settle .ensures) (clear-others .ensures .1),
+      (clear-others .ensures .0, c .before .before .erase .ensures),
+    )
 
 pub finish-spec : {M : Type 1} → statement M
 finish-spec =

@@ -25,23 +25,29 @@ sub-get c = omega (arith, c .before .count-of .ensures, c .before .before .befor
 
 get-requires : tie.Need-get-requires Inv-loop μ-loop
 get-requires c κs =
-    let start = c .before .before .before .before in
-    (omega (arith, c .before .count-of .ensures, start .pre .some),
-    omega (arith, c .before .count-of .ensures, start .pre .some, start .pre .few), omega arith)
+    let start = c .before .before .before .before in (
+      omega (arith, c .before .count-of .ensures, start .pre .some),
+      omega (arith, c .before .count-of .ensures, start .pre .some, start .pre .few),
+      omega arith,
+    )
 
 loop-holds : tie.Need-loop-holds Inv-loop μ-loop
 loop-holds c =
     let start = c .before .before .before .before .before in
-    let count-of = c .before .before .count-of in
-    (settle-start, count-of .ensures,
-    c .get .ensures ∙ ap (λ (k : ℕ). at (potentials (start .args .nodes .now)) (k - 1)) (count-of .ensures))
+    let count-of = c .before .before .count-of in (
+      settle-start,
+      count-of .ensures,
+      c .get .ensures ∙ ap (λ (k : ℕ). at (potentials (start .args .nodes .now)) (k - 1)) (count-of .ensures),
+    )
 
 get-requires-2 : tie.Need-get-requires-2 Inv-loop μ-loop
 get-requires-2 c κs =
     let start = c .before .before .before .before .before .before .before .before in
-    let loop = c .before .before .loop in
-    (omega (arith, c .before .loop-test .taken, loop .inv .1, loop .inv .0 .length-same),
-    omega (arith, c .before .loop-test .taken, loop .inv .1, start .pre .few), omega arith)
+    let loop = c .before .before .loop in (
+      omega (arith, c .before .loop-test .taken, loop .inv .1, loop .inv .0 .length-same),
+      omega (arith, c .before .loop-test .taken, loop .inv .1, start .pre .few),
+      omega arith,
+    )
 
 add-put : tie.Need-add-put Inv-loop μ-loop
 add-put c =
@@ -53,18 +59,24 @@ sub-put : tie.Need-sub-put Inv-loop μ-loop
 sub-put c =
     let start = c .before .before .before .before .before .before .before .before .before .before in
     let loop = c .before .before .before .before .loop in
-    omega
-    (arith, c .before .get2 .ensures, loop .inv .0 .todo (loop .v) (omega arith), loop .inv .2,
-    start .pre .near (loop .v) (omega (arith, c .before .before .before .loop-test .taken, loop .inv .1)))
+    omega (
+      arith,
+      c .before .get2 .ensures,
+      loop .inv .0 .todo (loop .v) (omega arith),
+      loop .inv .2,
+      start .pre .near (loop .v) (omega (arith, c .before .before .before .loop-test .taken, loop .inv .1)),
+    )
 
 put-requires : tie.Need-put-requires Inv-loop μ-loop
 put-requires c κs =
     let start = c .before .before .before .before .before .before .before .before .before .before in
     let loop = c .before .before .before .before .loop in
-    let loop-test = c .before .before .before .loop-test in
-    (omega (arith, loop-test .taken, loop .inv .1, loop .inv .0 .length-same),
-    omega (arith, loop-test .taken, loop .inv .1, start .pre .few), omega arith,
-    omega (arith, c .before .get2 .ensures, loop .inv .0 .todo (loop .v) (omega arith), start .pre .small (loop .v)))
+    let loop-test = c .before .before .before .loop-test in (
+      omega (arith, loop-test .taken, loop .inv .1, loop .inv .0 .length-same),
+      omega (arith, loop-test .taken, loop .inv .1, start .pre .few),
+      omega arith,
+      omega (arith, c .before .get2 .ensures, loop .inv .0 .todo (loop .v) (omega arith), start .pre .small (loop .v)),
+    )
 
 add-v : tie.Need-add-v Inv-loop μ-loop
 add-v c = search needs
@@ -78,12 +90,18 @@ loop-again c =
     let loop = c .before .before .before .before .before .before .before .loop in
     let loop-test = c .before .before .before .before .before .before .loop-test in
     let get2 = c .before .before .before .before .get2 in
-    let put = c .before .before .put in
-    (settle-next (put .last .0) (loop .inv .0) (omega (arith, loop-test .taken, loop .inv .1)) (put .ensures)
-    (omega
-    (arith, get2 .ensures, loop .inv .0 .todo (loop .v) (omega arith), loop .inv .2,
-    start .pre .near (loop .v) (omega (arith, loop-test .taken, loop .inv .1)))),
-    loop .inv .1, loop .inv .2)
+    let put = c .before .before .put in (
+      settle-next (put .last .0) (loop .inv .0) (omega (arith, loop-test .taken, loop .inv .1)) (put .ensures)
+          (omega (
+            arith,
+            get2 .ensures,
+            loop .inv .0 .todo (loop .v) (omega arith),
+            loop .inv .2,
+            start .pre .near (loop .v) (omega (arith, loop-test .taken, loop .inv .1)),
+          )),
+      loop .inv .1,
+      loop .inv .2,
+    )
 
 same-length : tie.Need-same-length Inv-loop μ-loop
 same-length c = c .before .loop .inv .0 .length-same

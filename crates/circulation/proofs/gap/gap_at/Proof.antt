@@ -21,14 +21,21 @@ head-of-requires c κs =
 
 get-requires : tie.Need-get-requires
 get-requires c κs =
-    let start = c .before .before .before .before .before in
-    (omega
-    (arith, c .head-of .ensures, start .pre .0 .wf .arc-in (start .args .i) (start .pre .1) .head-in,
-    column-length 0 (start .args .nodes .now)),
-    omega
-    (arith, c .head-of .ensures, start .pre .0 .wf .arc-in (start .args .i) (start .pre .1) .head-in,
-    start .pre .0 .wf .nodes),
-    omega arith)
+    let start = c .before .before .before .before .before in (
+      omega (
+        arith,
+        c .head-of .ensures,
+        start .pre .0 .wf .arc-in (start .args .i) (start .pre .1) .head-in,
+        column-length 0 (start .args .nodes .now),
+      ),
+      omega (
+        arith,
+        c .head-of .ensures,
+        start .pre .0 .wf .arc-in (start .args .i) (start .pre .1) .head-in,
+        start .pre .0 .wf .nodes,
+      ),
+      omega arith,
+    )
 
 add-stands : tie.Need-add-stands
 add-stands c =
@@ -38,14 +45,21 @@ add-stands c =
 get-requires-2 : tie.Need-get-requires-2
 get-requires-2 c κs =
     let start = c .before .before .before .before .before .before in
-    let tail-of = c .before .before .tail-of in
-    (omega
-    (arith, tail-of .ensures, start .pre .0 .wf .arc-in (start .args .i) (start .pre .1) .tail-in,
-    column-length 0 (start .args .nodes .now)),
-    omega
-    (arith, tail-of .ensures, start .pre .0 .wf .arc-in (start .args .i) (start .pre .1) .tail-in,
-    start .pre .0 .wf .nodes),
-    omega arith)
+    let tail-of = c .before .before .tail-of in (
+      omega (
+        arith,
+        tail-of .ensures,
+        start .pre .0 .wf .arc-in (start .args .i) (start .pre .1) .tail-in,
+        column-length 0 (start .args .nodes .now),
+      ),
+      omega (
+        arith,
+        tail-of .ensures,
+        start .pre .0 .wf .arc-in (start .args .i) (start .pre .1) .tail-in,
+        start .pre .0 .wf .nodes,
+      ),
+      omega arith,
+    )
 
 kink-of-requires : tie.Need-kink-of-requires
 kink-of-requires c κs =
@@ -56,10 +70,15 @@ add-asks : tie.Need-add-asks
 add-asks c =
     let start = c .before .before .before .before .before .before .before .before in
     let tail-of = c .before .before .before .before .tail-of in
-    omega
-    (arith, start .pre .0 .p-in (c .before .before .before .head-of .result), start .pre .0 .p-in (tail-of .result),
-    c .before .before .get .ensures, c .before .get2 .ensures, c .kink-of .ensures,
-    start .pre .0 .wf .arc-in (start .args .i) (start .pre .1) .kink-in)
+    omega (
+      arith,
+      start .pre .0 .p-in (c .before .before .before .head-of .result),
+      start .pre .0 .p-in (tail-of .result),
+      c .before .before .get .ensures,
+      c .before .get2 .ensures,
+      c .kink-of .ensures,
+      start .pre .0 .wf .arc-in (start .args .i) (start .pre .1) .kink-in,
+    )
 
 flow-of-requires : tie.Need-flow-of-requires
 flow-of-requires c κs =
@@ -69,26 +88,40 @@ flow-of-requires c κs =
 get-requires-3 : tie.Need-get-requires-3
 get-requires-3 c κs =
     let start = c .before .before .before .before .before .before .before .before .before in
-    let tail-of = c .before .before .before .before .before .tail-of in
-    (omega
-    (arith, tail-of .ensures, start .pre .0 .wf .arc-in (start .args .i) (start .pre .1) .tail-in,
-    column-length 0 (start .args .nodes .now)),
-    omega
-    (arith, tail-of .ensures, start .pre .0 .wf .arc-in (start .args .i) (start .pre .1) .tail-in,
-    start .pre .0 .wf .nodes),
-    omega arith)
+    let tail-of = c .before .before .before .before .before .tail-of in (
+      omega (
+        arith,
+        tail-of .ensures,
+        start .pre .0 .wf .arc-in (start .args .i) (start .pre .1) .tail-in,
+        column-length 0 (start .args .nodes .now),
+      ),
+      omega (
+        arith,
+        tail-of .ensures,
+        start .pre .0 .wf .arc-in (start .args .i) (start .pre .1) .tail-in,
+        start .pre .0 .wf .nodes,
+      ),
+      omega arith,
+    )
 
 get-requires-4 : tie.Need-get-requires-4
 get-requires-4 c κs =
     let start = c .before .before .before .before .before .before .before .before .before .before in
-    let head-of = c .before .before .before .before .before .head-of in
-    (omega
-    (arith, head-of .ensures, start .pre .0 .wf .arc-in (start .args .i) (start .pre .1) .head-in,
-    column-length 0 (start .args .nodes .now)),
-    omega
-    (arith, head-of .ensures, start .pre .0 .wf .arc-in (start .args .i) (start .pre .1) .head-in,
-    start .pre .0 .wf .nodes),
-    omega arith)
+    let head-of = c .before .before .before .before .before .head-of in (
+      omega (
+        arith,
+        head-of .ensures,
+        start .pre .0 .wf .arc-in (start .args .i) (start .pre .1) .head-in,
+        column-length 0 (start .args .nodes .now),
+      ),
+      omega (
+        arith,
+        head-of .ensures,
+        start .pre .0 .wf .arc-in (start .args .i) (start .pre .1) .head-in,
+        start .pre .0 .wf .nodes,
+      ),
+      omega arith,
+    )
 
 returns : tie.Need-returns
 returns c =
@@ -96,12 +129,18 @@ returns c =
     let tail-of = c .before .before .before .before .before .before .before .before .before .tail-of in
     let head-of = c .before .before .before .before .before .before .before .before .head-of in
     both-in
-    (omega
-    (arith, c .before .before .get4 .ensures, c .before .if1 .taken,
-    ap (at (ranks (start .args .nodes .now))) (head-of .ensures)))
-    (omega
-    (arith, c .before .before .before .get3 .ensures, c .if2 .taken,
-    ap (at (ranks (start .args .nodes .now))) (tail-of .ensures)))
+    (omega (
+      arith,
+      c .before .before .get4 .ensures,
+      c .before .if1 .taken,
+      ap (at (ranks (start .args .nodes .now))) (head-of .ensures),
+    ))
+    (omega (
+      arith,
+      c .before .before .before .get3 .ensures,
+      c .if2 .taken,
+      ap (at (ranks (start .args .nodes .now))) (tail-of .ensures),
+    ))
 
 high-of-requires : tie.Need-high-of-requires
 high-of-requires c κs =
@@ -115,13 +154,26 @@ distance-requires c κs =
     let head-of = c .before .before .before .before .before .before .before .before .before .head-of in
     let get = c .before .before .before .before .before .before .before .before .get in
     let get2 = c .before .before .before .before .before .before .before .get2 in
-    let kink-of = c .before .before .before .before .before .before .kink-of in
-    (omega
-    (arith, start .pre .0 .p-in (head-of .result), start .pre .0 .p-in (tail-of .result), get .ensures, get2 .ensures,
-    kink-of .ensures, start .pre .0 .wf .arc-in (start .args .i) (start .pre .1) .kink-in),
-    omega
-    (arith, start .pre .0 .p-in (head-of .result), start .pre .0 .p-in (tail-of .result), get .ensures, get2 .ensures,
-    kink-of .ensures, start .pre .0 .wf .arc-in (start .args .i) (start .pre .1) .kink-in))
+    let kink-of = c .before .before .before .before .before .before .kink-of in (
+      omega (
+        arith,
+        start .pre .0 .p-in (head-of .result),
+        start .pre .0 .p-in (tail-of .result),
+        get .ensures,
+        get2 .ensures,
+        kink-of .ensures,
+        start .pre .0 .wf .arc-in (start .args .i) (start .pre .1) .kink-in,
+      ),
+      omega (
+        arith,
+        start .pre .0 .p-in (head-of .result),
+        start .pre .0 .p-in (tail-of .result),
+        get .ensures,
+        get2 .ensures,
+        kink-of .ensures,
+        start .pre .0 .wf .arc-in (start .args .i) (start .pre .1) .kink-in,
+      ),
+    )
 
 returns-2 : tie.Need-returns-2
 returns-2 c =
@@ -139,9 +191,12 @@ returns-2 c =
     (start .args .i) (omega (arith, get .ensures, ap (at (potentials (start .args .nodes .now))) (head-of .ensures)))
     (omega (arith, get2 .ensures, kink-of .ensures, ap (at (potentials (start .args .nodes .now))) (tail-of .ensures)))
     (flow-of .ensures) (c .before .high-of .ensures)
-    (omega
-    (arith, get4 .ensures, c .before .before .before .if1 .taken,
-    ap (at (ranks (start .args .nodes .now))) (head-of .ensures)))
+    (omega (
+      arith,
+      get4 .ensures,
+      c .before .before .before .if1 .taken,
+      ap (at (ranks (start .args .nodes .now))) (head-of .ensures),
+    ))
     (omega
     (arith, get3 .ensures, c .before .before .if2 .left, ap (at (ranks (start .args .nodes .now))) (tail-of .ensures)))
     (c .distance .ensures)
@@ -152,12 +207,18 @@ returns-3 c =
     let tail-of = c .before .before .before .before .before .before .before .before .before .tail-of in
     let head-of = c .before .before .before .before .before .before .before .before .head-of in
     both-out
-    (omega
-    (arith, c .before .before .get4 .ensures, c .before .if1 .left,
-    ap (at (ranks (start .args .nodes .now))) (head-of .ensures)))
-    (omega
-    (arith, c .before .before .before .get3 .ensures, c .if3 .taken,
-    ap (at (ranks (start .args .nodes .now))) (tail-of .ensures)))
+    (omega (
+      arith,
+      c .before .before .get4 .ensures,
+      c .before .if1 .left,
+      ap (at (ranks (start .args .nodes .now))) (head-of .ensures),
+    ))
+    (omega (
+      arith,
+      c .before .before .before .get3 .ensures,
+      c .if3 .taken,
+      ap (at (ranks (start .args .nodes .now))) (tail-of .ensures),
+    ))
 
 low-of-requires : tie.Need-low-of-requires
 low-of-requires c κs =
@@ -171,13 +232,26 @@ distance-requires-2 c κs =
     let head-of = c .before .before .before .before .before .before .before .before .before .head-of in
     let get = c .before .before .before .before .before .before .before .before .get in
     let get2 = c .before .before .before .before .before .before .before .get2 in
-    let kink-of = c .before .before .before .before .before .before .kink-of in
-    (omega
-    (arith, start .pre .0 .p-in (head-of .result), start .pre .0 .p-in (tail-of .result), get .ensures, get2 .ensures,
-    kink-of .ensures, start .pre .0 .wf .arc-in (start .args .i) (start .pre .1) .kink-in),
-    omega
-    (arith, start .pre .0 .p-in (head-of .result), start .pre .0 .p-in (tail-of .result), get .ensures, get2 .ensures,
-    kink-of .ensures, start .pre .0 .wf .arc-in (start .args .i) (start .pre .1) .kink-in))
+    let kink-of = c .before .before .before .before .before .before .kink-of in (
+      omega (
+        arith,
+        start .pre .0 .p-in (head-of .result),
+        start .pre .0 .p-in (tail-of .result),
+        get .ensures,
+        get2 .ensures,
+        kink-of .ensures,
+        start .pre .0 .wf .arc-in (start .args .i) (start .pre .1) .kink-in,
+      ),
+      omega (
+        arith,
+        start .pre .0 .p-in (head-of .result),
+        start .pre .0 .p-in (tail-of .result),
+        get .ensures,
+        get2 .ensures,
+        kink-of .ensures,
+        start .pre .0 .wf .arc-in (start .args .i) (start .pre .1) .kink-in,
+      ),
+    )
 
 returns-4 : tie.Need-returns-4
 returns-4 c =
@@ -197,9 +271,12 @@ returns-4 c =
     (flow-of .ensures) (c .before .low-of .ensures)
     (omega
     (arith, get3 .ensures, c .before .before .if3 .left, ap (at (ranks (start .args .nodes .now))) (tail-of .ensures)))
-    (omega
-    (arith, get4 .ensures, c .before .before .before .if1 .left,
-    ap (at (ranks (start .args .nodes .now))) (head-of .ensures)))
+    (omega (
+      arith,
+      get4 .ensures,
+      c .before .before .before .if1 .left,
+      ap (at (ranks (start .args .nodes .now))) (head-of .ensures),
+    ))
     (c .distance2 .ensures)
 
 pub gap-at-spec : {M : Type 1} → statement M

@@ -25,9 +25,10 @@ sub-i c = search needs
 tail-of-requires : tie.Need-tail-of-requires Inv-loop μ-loop
 tail-of-requires c κs =
     let start = c .before .before .before .before .before .before .before .before .before in
-    let loop = c .before .before .loop in
-    (omega (arith, start .pre .room, c .before .loop-test .taken, loop .inv .1),
-    omega (arith, start .pre .few, c .before .loop-test .taken, loop .inv .1))
+    let loop = c .before .before .loop in (
+      omega (arith, start .pre .room, c .before .loop-test .taken, loop .inv .1),
+      omega (arith, start .pre .few, c .before .loop-test .taken, loop .inv .1),
+    )
 
 mul-link : tie.Need-mul-link Inv-loop μ-loop
 mul-link c =
@@ -38,20 +39,25 @@ link-requires : tie.Need-link-requires Inv-loop μ-loop
 link-requires c κs =
     let start = c .before .before .before .before .before .before .before .before .before .before in
     let loop = c .before .before .before .loop in
-    let loop-test = c .before .before .loop-test in
-    (start .pre .nodes,
-    omega
-    (arith, c .tail-of .ensures,
-    start .pre .arc-in (loop .i - 1) (omega (arith, loop-test .taken, loop .inv .1)) .tail-in, start .pre .nodes),
-    omega (arith, start .pre .few, loop .inv .1, loop-test .taken))
+    let loop-test = c .before .before .loop-test in (
+      start .pre .nodes,
+      omega (
+        arith,
+        c .tail-of .ensures,
+        start .pre .arc-in (loop .i - 1) (omega (arith, loop-test .taken, loop .inv .1)) .tail-in,
+        start .pre .nodes,
+      ),
+      omega (arith, start .pre .few, loop .inv .1, loop-test .taken),
+    )
 
 head-of-requires : tie.Need-head-of-requires Inv-loop μ-loop
 head-of-requires c κs =
     let start = c .before .before .before .before .before .before .before .before .before .before .before .before .before .before in
     let loop = c .before .before .before .before .before .before .before .loop in
-    let loop-test = c .before .before .before .before .before .before .loop-test in
-    (omega (arith, start .pre .room, loop-test .taken, loop .inv .1),
-    omega (arith, start .pre .few, loop-test .taken, loop .inv .1))
+    let loop-test = c .before .before .before .before .before .before .loop-test in (
+      omega (arith, start .pre .room, loop-test .taken, loop .inv .1),
+      omega (arith, start .pre .few, loop-test .taken, loop .inv .1),
+    )
 
 mul-link-2 : tie.Need-mul-link-2 Inv-loop μ-loop
 mul-link-2 c =
@@ -69,12 +75,16 @@ link-requires-2 : tie.Need-link-requires-2 Inv-loop μ-loop
 link-requires-2 c κs =
     let start = c .before .before .before .before .before .before .before .before .before .before .before .before .before .before .before in
     let loop = c .before .before .before .before .before .before .before .before .loop in
-    let loop-test = c .before .before .before .before .before .before .before .loop-test in
-    (start .pre .nodes,
-    omega
-    (arith, c .head-of .ensures,
-    start .pre .arc-in (loop .i - 1) (omega (arith, loop-test .taken, loop .inv .1)) .head-in, start .pre .nodes),
-    omega (arith, start .pre .few, loop .inv .1, loop-test .taken))
+    let loop-test = c .before .before .before .before .before .before .before .loop-test in (
+      start .pre .nodes,
+      omega (
+        arith,
+        c .head-of .ensures,
+        start .pre .arc-in (loop .i - 1) (omega (arith, loop-test .taken, loop .inv .1)) .head-in,
+        start .pre .nodes,
+      ),
+      omega (arith, start .pre .few, loop .inv .1, loop-test .taken),
+    )
 
 loop-less : tie.Need-loop-less Inv-loop μ-loop
 loop-less c =

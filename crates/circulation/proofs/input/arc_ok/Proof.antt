@@ -57,7 +57,7 @@ returns-5 c =
       head-in = omega (arith, head-of .ensures, if2 .left);
       kink-in = omega (arith, kink-of .ensures, if3 .left);
       low-in = rw (← low-of .ensures)
-      (tested-yes (low-ok .result) (low-ok .ensures) (not-false (low-ok .result) (c .before .before .if4 .left)));
+          (tested-yes (low-ok .result) (low-ok .ensures) (not-false (low-ok .result) (c .before .before .if4 .left)));
       high-in = rw (← c .before .high-of .ensures) h;
     })
     (λ a. rw (c .before .high-of .ensures) (a .high-in)) (c .high-ok .result) (c .high-ok .ensures)

@@ -34,9 +34,10 @@ loop-less : tie.Need-loop-less Inv-loop μ-loop
 loop-less c = search needs
 
 loop-again : tie.Need-loop-again Inv-loop μ-loop
-loop-again c =
-    (omega (arith, c .before .before .loop-test .taken),
-    below-more _ _ (c .before .before .before .loop .inv .1) (omega (arith, c .before .get .ensures, c .if1 .left)))
+loop-again c = (
+  omega (arith, c .before .before .loop-test .taken),
+  below-more _ _ (c .before .before .before .loop .inv .1) (omega (arith, c .before .get .ensures, c .if1 .left)),
+)
 
 returns-2 : tie.Need-returns-2 Inv-loop μ-loop
 returns-2 c =

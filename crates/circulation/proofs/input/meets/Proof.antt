@@ -56,13 +56,14 @@ loop-again : tie.Need-loop-again Inv-loop μ-loop
 loop-again c =
     let start = c .before .before .before .before .before .before .before in
     let loop = c .before .before .before .before .loop in
-    let first-flow = c .before .before .first-flow in
-    (omega arith,
-    below-more _ _ (loop .inv .1)
-    (met-by (net (start .args .arcs .now) (start .args .m)) (size (start .args .nodes .now))
-    (at (potentials (start .args .nodes .now))) (loop .i) (first-flow .result) (first-flow .ensures)
-    (start .pre .0 .arc-in (loop .i) (c .before .before .before .loop-test .taken)) (c .before .if1 .left)
-    (c .if2 .left)))
+    let first-flow = c .before .before .first-flow in (
+      omega arith,
+      below-more _ _ (loop .inv .1)
+          (met-by (net (start .args .arcs .now) (start .args .m)) (size (start .args .nodes .now))
+          (at (potentials (start .args .nodes .now))) (loop .i) (first-flow .result) (first-flow .ensures)
+          (start .pre .0 .arc-in (loop .i) (c .before .before .before .loop-test .taken)) (c .before .if1 .left)
+          (c .if2 .left)),
+    )
 
 returns-3 : tie.Need-returns-3 Inv-loop μ-loop
 returns-3 c =

@@ -41,15 +41,16 @@ loop-less c = omega (arith, c .before .before .loop-test .taken)
 loop-again : tie.Need-loop-again Inv-loop μ-loop
 loop-again c =
     let start = c .before .before .before .before .before in
-    let loop = c .before .before .before .loop in
-    (loop .inv .0,
-    below-more _ _ (loop .inv .1)
-    (record {
-      arc = c .before .any-hanger .result;
-      arc-in = omega (arith, c .if1 .left);
-      by = subst (λ (j : ℕ). HangsBy (start .args .arcs .now) j (loop .v) (c .before .any-hanger .result))
-      (loop .inv .0) (c .before .any-hanger .ensures .some (omega (arith, c .if1 .left)));
-    }))
+    let loop = c .before .before .before .loop in (
+      loop .inv .0,
+      below-more _ _ (loop .inv .1)
+          (record {
+            arc = c .before .any-hanger .result;
+            arc-in = omega (arith, c .if1 .left);
+            by = subst (λ (j : ℕ). HangsBy (start .args .arcs .now) j (loop .v) (c .before .any-hanger .result))
+                (loop .inv .0) (c .before .any-hanger .ensures .some (omega (arith, c .if1 .left)));
+          }),
+    )
 
 returns-2 : tie.Need-returns-2 Inv-loop μ-loop
 returns-2 c =

@@ -22,10 +22,11 @@ returns c =
     (not-true (c .before .well-formed .result) (c .if1 .taken)) (rw (c .before .before .count-of .ensures) (v .wf))
 
 low-start-requires : tie.Need-low-start-requires
-low-start-requires c κs =
-    (c .before .before .count-of .ensures,
-    (tested-yes (c .before .well-formed .result) (c .before .well-formed .ensures)
-    (not-false (c .before .well-formed .result) (c .if1 .left))) .nodes)
+low-start-requires c κs = (
+  c .before .before .count-of .ensures,
+  (tested-yes (c .before .well-formed .result) (c .before .well-formed .ensures)
+      (not-false (c .before .well-formed .result) (c .if1 .left))) .nodes,
+)
 
 returns-2 : tie.Need-returns-2
 returns-2 c =
@@ -35,11 +36,12 @@ returns-2 c =
 rooted-requires : tie.Need-rooted-requires
 rooted-requires c κs =
     let well-formed = c .before .before .before .well-formed in
-    let if1 = c .before .before .if1 in
-    ((tested-yes (well-formed .result) (well-formed .ensures) (not-false (well-formed .result) (if1 .left))) .room,
-    (tested-yes (well-formed .result) (well-formed .ensures) (not-false (well-formed .result) (if1 .left))) .few,
-    (tested-yes (well-formed .result) (well-formed .ensures) (not-false (well-formed .result) (if1 .left))) .some,
-    (tested-yes (well-formed .result) (well-formed .ensures) (not-false (well-formed .result) (if1 .left))) .nodes)
+    let if1 = c .before .before .if1 in (
+      (tested-yes (well-formed .result) (well-formed .ensures) (not-false (well-formed .result) (if1 .left))) .room,
+      (tested-yes (well-formed .result) (well-formed .ensures) (not-false (well-formed .result) (if1 .left))) .few,
+      (tested-yes (well-formed .result) (well-formed .ensures) (not-false (well-formed .result) (if1 .left))) .some,
+      (tested-yes (well-formed .result) (well-formed .ensures) (not-false (well-formed .result) (if1 .left))) .nodes,
+    )
 
 returns-3 : tie.Need-returns-3
 returns-3 c =
@@ -53,11 +55,12 @@ meets-requires c κs =
     let count-of = c .before .before .before .before .before .before .count-of in
     let well-formed = c .before .before .before .before .before .well-formed in
     let if1 = c .before .before .before .before .if1 in
-    let low-start = c .before .before .before .low-start in
-    ((subst (λ (n : ℕ). WellFormed (net (start .args .arcs .now) (start .args .m)) n) (count-of .ensures)
-    (tested-yes (well-formed .result) (well-formed .ensures) (not-false (well-formed .result) (if1 .left)))),
-    first-small
-    (tested-yes (low-start .result) (low-start .ensures) (not-false (low-start .result) (c .before .before .if2 .left))))
+    let low-start = c .before .before .before .low-start in (
+      (subst (λ (n : ℕ). WellFormed (net (start .args .arcs .now) (start .args .m)) n) (count-of .ensures)
+          (tested-yes (well-formed .result) (well-formed .ensures) (not-false (well-formed .result) (if1 .left)))),
+      first-small
+          (tested-yes (low-start .result) (low-start .ensures) (not-false (low-start .result) (c .before .before .if2 .left))),
+    )
 
 returns-4 : tie.Need-returns-4
 returns-4 c =
@@ -69,16 +72,16 @@ returns-4 c =
     tested-map
     (λ f. record {
       wf =
-      (subst (λ (n : ℕ). WellFormed (net (start .args .arcs .now) (start .args .m)) n) (count-of .ensures)
-      (tested-yes (well-formed .result) (well-formed .ensures) (not-false (well-formed .result) (if1 .left))));
+          (subst (λ (n : ℕ). WellFormed (net (start .args .arcs .now) (start .args .m)) n) (count-of .ensures)
+          (tested-yes (well-formed .result) (well-formed .ensures) (not-false (well-formed .result) (if1 .left))));
       p-in =
-      (tested-yes (low-start .result) (low-start .ensures)
-      (not-false (low-start .result) (c .before .before .before .if2 .left)));
+          (tested-yes (low-start .result) (low-start .ensures)
+          (not-false (low-start .result) (c .before .before .before .if2 .left)));
       feasible = f;
       rooted =
-      (subst (λ (n : ℕ). Rooted (net (start .args .arcs .now) (start .args .m)) n) (count-of .ensures)
-      (tested-yes (c .before .before .rooted .result) (c .before .before .rooted .ensures)
-      (not-false (c .before .before .rooted .result) (c .before .if3 .left))));
+          (subst (λ (n : ℕ). Rooted (net (start .args .arcs .now) (start .args .m)) n) (count-of .ensures)
+          (tested-yes (c .before .before .rooted .result) (c .before .before .rooted .ensures)
+          (not-false (c .before .before .rooted .result) (c .before .if3 .left))));
     })
     (λ v. v .feasible) (c .meets .result) (c .meets .ensures)
 

@@ -35,9 +35,10 @@ loop-holds : tie.Need-loop-holds Inv-loop μ-loop
 loop-holds c = (omega arith, below-none _)
 
 arc-ok-requires : tie.Need-arc-ok-requires Inv-loop μ-loop
-arc-ok-requires c κs =
-    (omega (arith, c .before .before .if4 .left, c .loop-test .taken),
-    omega (arith, c .before .before .before .if3 .left, c .loop-test .taken))
+arc-ok-requires c κs = (
+  omega (arith, c .before .before .if4 .left, c .loop-test .taken),
+  omega (arith, c .before .before .before .if3 .left, c .loop-test .taken),
+)
 
 returns-5 : tie.Need-returns-5 Inv-loop μ-loop
 returns-5 c =
@@ -52,11 +53,12 @@ loop-less : tie.Need-loop-less Inv-loop μ-loop
 loop-less c = omega (arith, c .before .before .loop-test .taken)
 
 loop-again : tie.Need-loop-again Inv-loop μ-loop
-loop-again c =
-    (omega (arith, c .before .before .loop-test .taken),
-    below-more _ _ (c .before .before .before .loop .inv .1)
-    (tested-yes (c .before .arc-ok .result) (c .before .arc-ok .ensures)
-    (not-false (c .before .arc-ok .result) (c .if5 .left))))
+loop-again c = (
+  omega (arith, c .before .before .loop-test .taken),
+  below-more _ _ (c .before .before .before .loop .inv .1)
+      (tested-yes (c .before .arc-ok .result) (c .before .arc-ok .ensures)
+      (not-false (c .before .arc-ok .result) (c .if5 .left))),
+)
 
 returns-6 : tie.Need-returns-6 Inv-loop μ-loop
 returns-6 c =

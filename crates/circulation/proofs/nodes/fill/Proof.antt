@@ -24,9 +24,12 @@ loop-holds c = (fill-start, c .count-of .ensures, omega (arith, c .count-of .ens
 
 put-requires : tie.Need-put-requires Inv-loop μ-loop
 put-requires c κs =
-    let loop = c .before .before .loop in
-    (omega (arith, c .before .loop-test .taken, loop .inv .1, loop .inv .0 .only .length-same),
-    omega (arith, c .before .loop-test .taken, loop .inv .2), omega arith, omega arith)
+    let loop = c .before .before .loop in (
+      omega (arith, c .before .loop-test .taken, loop .inv .1, loop .inv .0 .only .length-same),
+      omega (arith, c .before .loop-test .taken, loop .inv .2),
+      omega arith,
+      omega arith,
+    )
 
 add-v : tie.Need-add-v Inv-loop μ-loop
 add-v c = search needs
@@ -38,17 +41,20 @@ loop-again : tie.Need-loop-again Inv-loop μ-loop
 loop-again c =
     let loop = c .before .before .before .before .before .loop in
     let loop-test = c .before .before .before .before .loop-test in
-    let put = c .before .before .put in
-    (fill-next (put .last .0) (loop .inv .0) (omega (arith, loop-test .taken, loop .inv .1)) (put .ensures),
-    loop .inv .1, loop .inv .2)
+    let put = c .before .before .put in (
+      fill-next (put .last .0) (loop .inv .0) (omega (arith, loop-test .taken, loop .inv .1)) (put .ensures),
+      loop .inv .1,
+      loop .inv .2,
+    )
 
 same-length : tie.Need-same-length Inv-loop μ-loop
 same-length c = c .before .loop .inv .0 .only .length-same
 
 returns : tie.Need-returns Inv-loop μ-loop
-returns c =
-    (λ v l. c .before .loop .inv .0 .filled v (omega (arith, c .loop-test .left, c .before .loop .inv .1)),
-    c .before .loop .inv .0 .only)
+returns c = (
+  λ v l. c .before .loop .inv .0 .filled v (omega (arith, c .loop-test .left, c .before .loop .inv .1)),
+  c .before .loop .inv .0 .only,
+)
 
 pub fill-spec : {M : Type 1} → statement M
 fill-spec =

@@ -44,10 +44,13 @@ add-put c =
 put-requires : tie.Need-put-requires
 put-requires c κs =
     let start = c .before .before .before .before .before .before .before in
-    let get = c .before .before .before .before .get in
-    (start .pre .0 .0, start .pre .0 .1, omega arith,
-    omega
-    (arith, c .before .get2 .ensures, start .pre .1 (omega (arith, get .ensures, c .before .before .before .if1 .left))))
+    let get = c .before .before .before .before .get in (
+      start .pre .0 .0,
+      start .pre .0 .1,
+      omega arith,
+      omega
+          (arith, c .before .get2 .ensures, start .pre .1 (omega (arith, get .ensures, c .before .before .before .if1 .left))),
+    )
 
 same-length-2 : tie.Need-same-length-2
 same-length-2 c = search needs

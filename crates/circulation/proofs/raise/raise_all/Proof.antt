@@ -24,10 +24,13 @@ loop-holds c = (move-start, c .count-of .ensures)
 raise-requires : tie.Need-raise-requires Inv-loop μ-loop
 raise-requires c κs =
     let start = c .before .before .before .before .before .before in
-    let loop = c .before .before .loop in
-    ((omega (arith, c .before .loop-test .taken, loop .inv .1, loop .inv .0 .only .length-same),
-    omega (arith, c .before .loop-test .taken, loop .inv .1, start .pre .0)),
-    move-fits (loop .inv .0) (omega (arith, c .before .loop-test .taken, loop .inv .1)) (start .pre .1 .1))
+    let loop = c .before .before .loop in (
+      (
+        omega (arith, c .before .loop-test .taken, loop .inv .1, loop .inv .0 .only .length-same),
+        omega (arith, c .before .loop-test .taken, loop .inv .1, start .pre .0),
+      ),
+      move-fits (loop .inv .0) (omega (arith, c .before .loop-test .taken, loop .inv .1)) (start .pre .1 .1),
+    )
 
 add-v : tie.Need-add-v Inv-loop μ-loop
 add-v c = search needs
@@ -39,19 +42,21 @@ loop-again : tie.Need-loop-again Inv-loop μ-loop
 loop-again c =
     let loop = c .before .before .before .before .before .loop in
     let loop-test = c .before .before .before .before .loop-test in
-    let raise = c .before .before .raise in
-    (move-next (loop .inv .0) (omega (arith, loop-test .taken, loop .inv .1)) (raise .last .0) (raise .ensures),
-    loop .inv .1)
+    let raise = c .before .before .raise in (
+      move-next (loop .inv .0) (omega (arith, loop-test .taken, loop .inv .1)) (raise .last .0) (raise .ensures),
+      loop .inv .1,
+    )
 
 same-length : tie.Need-same-length Inv-loop μ-loop
 same-length c = c .before .loop .inv .0 .only .length-same
 
 returns : tie.Need-returns Inv-loop μ-loop
 returns c =
-    let start = c .before .before .before .before .before in
-    (move-end (c .before .loop .inv .0) (omega (arith, c .loop-test .left, c .before .loop .inv .1)) (start .pre .1 .0)
-    (start .pre .1 .1),
-    c .before .loop .inv .0 .only)
+    let start = c .before .before .before .before .before in (
+      move-end (c .before .loop .inv .0) (omega (arith, c .loop-test .left, c .before .loop .inv .1)) (start .pre .1 .0)
+          (start .pre .1 .1),
+      c .before .loop .inv .0 .only,
+    )
 
 pub raise-all-spec : {M : Type 1} → statement M
 raise-all-spec =

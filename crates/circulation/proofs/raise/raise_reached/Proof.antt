@@ -6,9 +6,10 @@ use Rattle.circulation.proofs.raise.raise_reached.Statement.{statement}
 use Rattle.circulation.proofs.raise.raise_reached.Tie as tie
 
 returns : tie.Need-returns
-returns c =
-    (unmoved (c .before .before .args .d) (c .if1 .taken) (c .before .before .pre .1 .0),
-    apart-start 0 (c .before .before .args .nodes .now))
+returns c = (
+  unmoved (c .before .before .args .d) (c .if1 .taken) (c .before .before .pre .1 .0),
+  apart-start 0 (c .before .before .args .nodes .now),
+)
 
 raise-all-requires : tie.Need-raise-all-requires
 raise-all-requires c κs = search needs

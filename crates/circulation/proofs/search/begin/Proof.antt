@@ -10,16 +10,22 @@ fill-requires c κs = (c .before .before .pre .0, omega arith, omega arith)
 
 put-requires : tie.Need-put-requires
 put-requires c κs =
-    let start = c .before .before .before .before .before .before in
-    (omega (arith, start .pre .1, c .before .before .before .fill .ensures .1 .length-same),
-    omega (arith, start .pre .0, start .pre .1), omega arith, omega arith)
+    let start = c .before .before .before .before .before .before in (
+      omega (arith, start .pre .1, c .before .before .before .fill .ensures .1 .length-same),
+      omega (arith, start .pre .0, start .pre .1),
+      omega arith,
+      omega arith,
+    )
 
 put-requires-2 : tie.Need-put-requires-2
 put-requires-2 c κs =
     let start = c .before .before .before .before .before .before .before .before .before .before in
-    let fill = c .before .before .before .before .before .before .before .fill in
-    (omega (arith, start .pre .1, fill .ensures .1 .length-same, c .before .before .before .put .ensures .length-same),
-    omega (arith, start .pre .0, start .pre .1), omega arith, start .pre .2)
+    let fill = c .before .before .before .before .before .before .before .fill in (
+      omega (arith, start .pre .1, fill .ensures .1 .length-same, c .before .before .before .put .ensures .length-same),
+      omega (arith, start .pre .0, start .pre .1),
+      omega arith,
+      start .pre .2,
+    )
 
 same-length : tie.Need-same-length
 same-length c =

@@ -26,37 +26,48 @@ gap-at-requires c κs =
 raise-reached-requires : tie.Need-raise-reached-requires
 raise-reached-requires c κs =
     let start = c .before .before .before .before .before .before .before .before .before .before .before .before in
-    let choose = c .before .before .before .before .before .choose in
-    (omega (arith, start .pre .0 .ready .wf .nodes, column-length 0 (start .args .nodes .now)),
-    (start .pre .0 .ready .p-in,
-    λ v l r. raise-fits (start .pre .0) (choose .result) (c .before .gap-at .result) (choose .ensures)
-    (c .before .gap-at .ensures .least (choose .ensures .1) .0) (crossing-room (start .pre .0) (start .pre .1)) v
-    (omega (arith, column-length 0 (start .args .nodes .now))) r))
+    let choose = c .before .before .before .before .before .choose in (
+      omega (arith, start .pre .0 .ready .wf .nodes, column-length 0 (start .args .nodes .now)),
+      (
+        start .pre .0 .ready .p-in,
+        λ v l r. raise-fits (start .pre .0) (choose .result) (c .before .gap-at .result) (choose .ensures)
+            (c .before .gap-at .ensures .least (choose .ensures .1) .0) (crossing-room (start .pre .0) (start .pre .1)) v
+            (omega (arith, column-length 0 (start .args .nodes .now))) r,
+      ),
+    )
 
 far-requires : tie.Need-far-requires
 far-requires c κs =
     let start = c .before .before .before .before .before .before .before .before .before .before .before .before .before .before .before .before in
     let choose = c .before .before .before .before .before .before .before .before .before .choose in
-    let raise-reached = c .before .before .before .raise-reached in
-    (omega (arith, choose .ensures .0, start .pre .0 .ready .wf .room),
-    omega (arith, choose .ensures .0, start .pre .0 .ready .wf .few),
-    omega
-    (arith, start .pre .0 .ready .wf .arc-in (choose .result) (choose .ensures .0) .head-in,
-    column-length 0 (start .args .nodes .now), raise-reached .ensures .1 .length-same),
-    omega
-    (arith, start .pre .0 .ready .wf .nodes, column-length 0 (start .args .nodes .now),
-    raise-reached .ensures .1 .length-same))
+    let raise-reached = c .before .before .before .raise-reached in (
+      omega (arith, choose .ensures .0, start .pre .0 .ready .wf .room),
+      omega (arith, choose .ensures .0, start .pre .0 .ready .wf .few),
+      omega (
+        arith,
+        start .pre .0 .ready .wf .arc-in (choose .result) (choose .ensures .0) .head-in,
+        column-length 0 (start .args .nodes .now),
+        raise-reached .ensures .1 .length-same,
+      ),
+      omega (
+        arith,
+        start .pre .0 .ready .wf .nodes,
+        column-length 0 (start .args .nodes .now),
+        raise-reached .ensures .1 .length-same,
+      ),
+    )
 
 room-over-requires : tie.Need-room-over-requires
 room-over-requires c κs =
     let start = c .before .before .before .before .before .before .before .before .before .before .before .before .before .before .before .before .before .before in
     let choose = c .before .before .before .before .before .before .before .before .before .before .before .choose in
-    let raise-reached = c .before .before .before .before .before .raise-reached in
-    (subst (λ (n : ℕ). WellFormed (net (start .args .arcs .now) (length (start .args .flows .now))) n)
-    (column-length 0 (start .args .nodes .now)
-    ∙ sym (ap (λ (k : ℕ). k / node-stride) (raise-reached .ensures .1 .length-same)))
-    (start .pre .0 .ready .wf),
-    (choose .ensures .0, start .pre .0 .slack .within (choose .result) (choose .ensures .0)))
+    let raise-reached = c .before .before .before .before .before .raise-reached in (
+      subst (λ (n : ℕ). WellFormed (net (start .args .arcs .now) (length (start .args .flows .now))) n)
+          (column-length 0 (start .args .nodes .now)
+          ∙ sym (ap (λ (k : ℕ). k / node-stride) (raise-reached .ensures .1 .length-same)))
+          (start .pre .0 .ready .wf),
+      (choose .ensures .0, start .pre .0 .slack .within (choose .result) (choose .ensures .0)),
+    )
 
 add-reach : tie.Need-add-reach
 add-reach c =
@@ -69,23 +80,28 @@ reach-requires c κs =
     let choose = c .before .before .before .before .before .before .before .before .before .before .before .before .before .choose in
     let gap-at = c .before .before .before .before .before .before .before .before .before .gap-at in
     let raise-reached = c .before .before .before .before .before .before .before .raise-reached in
-    let far = c .before .before .before .far in
-    (omega
-    (arith,
-    far-in (start .pre .0) (choose .result) (gap-at .result) (choose .ensures)
-    (gap-at .ensures .least (choose .ensures .1) .0) (raise-reached .last .0) (raise-reached .ensures .0)
-    (raise-reached .ensures .1) (far .result) (far .ensures .0) (far .ensures .1) (c .before .room-over .result)
-    (c .before .room-over .ensures .0),
-    raise-reached .ensures .1 .length-same),
-    omega
-    (arith,
-    far-in (start .pre .0) (choose .result) (gap-at .result) (choose .ensures)
-    (gap-at .ensures .least (choose .ensures .1) .0) (raise-reached .last .0) (raise-reached .ensures .0)
-    (raise-reached .ensures .1) (far .result) (far .ensures .0) (far .ensures .1) (c .before .room-over .result)
-    (c .before .room-over .ensures .0),
-    start .pre .0 .ready .wf .nodes, column-length 0 (start .args .nodes .now)),
-    omega (arith, crossing-room (start .pre .0) (start .pre .1), start .pre .0 .ready .wf .nodes),
-    omega (arith, choose .ensures .0, start .pre .0 .ready .wf .few), c .before .room-over .ensures .1)
+    let far = c .before .before .before .far in (
+      omega (
+        arith,
+        far-in (start .pre .0) (choose .result) (gap-at .result) (choose .ensures)
+            (gap-at .ensures .least (choose .ensures .1) .0) (raise-reached .last .0) (raise-reached .ensures .0)
+            (raise-reached .ensures .1) (far .result) (far .ensures .0) (far .ensures .1) (c .before .room-over .result)
+            (c .before .room-over .ensures .0),
+        raise-reached .ensures .1 .length-same,
+      ),
+      omega (
+        arith,
+        far-in (start .pre .0) (choose .result) (gap-at .result) (choose .ensures)
+            (gap-at .ensures .least (choose .ensures .1) .0) (raise-reached .last .0) (raise-reached .ensures .0)
+            (raise-reached .ensures .1) (far .result) (far .ensures .0) (far .ensures .1) (c .before .room-over .result)
+            (c .before .room-over .ensures .0),
+        start .pre .0 .ready .wf .nodes,
+        column-length 0 (start .args .nodes .now),
+      ),
+      omega (arith, crossing-room (start .pre .0) (start .pre .1), start .pre .0 .ready .wf .nodes),
+      omega (arith, choose .ensures .0, start .pre .0 .ready .wf .few),
+      c .before .room-over .ensures .1,
+    )
 
 count-of-requires : tie.Need-count-of-requires
 count-of-requires c κs = search needs
@@ -98,17 +114,25 @@ opened-requires c κs =
     let raise-reached = c .before .before .before .before .before .before .before .before .before .before .before .before .before .raise-reached in
     let far = c .before .before .before .before .before .before .before .before .before .far in
     let room-over = c .before .before .before .before .before .before .before .room-over in
-    let reach = c .before .before .before .before .before .reach in
-    (omega
-    (arith, c .count-of .ensures, reach .ensures .length-same, raise-reached .ensures .1 .length-same,
-    start .pre .0 .ready .wf .nodes, column-length 0 (start .args .nodes .now)),
-    omega
-    (arith,
-    far-in (start .pre .0) (choose .result) (gap-at .result) (choose .ensures)
-    (gap-at .ensures .least (choose .ensures .1) .0) (raise-reached .last .0) (raise-reached .ensures .0)
-    (raise-reached .ensures .1) (far .result) (far .ensures .0) (far .ensures .1) (room-over .result)
-    (room-over .ensures .0),
-    start .pre .0 .ready .wf .nodes, column-length 0 (start .args .nodes .now)))
+    let reach = c .before .before .before .before .before .reach in (
+      omega (
+        arith,
+        c .count-of .ensures,
+        reach .ensures .length-same,
+        raise-reached .ensures .1 .length-same,
+        start .pre .0 .ready .wf .nodes,
+        column-length 0 (start .args .nodes .now),
+      ),
+      omega (
+        arith,
+        far-in (start .pre .0) (choose .result) (gap-at .result) (choose .ensures)
+            (gap-at .ensures .least (choose .ensures .1) .0) (raise-reached .last .0) (raise-reached .ensures .0)
+            (raise-reached .ensures .1) (far .result) (far .ensures .0) (far .ensures .1) (room-over .result)
+            (room-over .ensures .0),
+        start .pre .0 .ready .wf .nodes,
+        column-length 0 (start .args .nodes .now),
+      ),
+    )
 
 same-length : tie.Need-same-length
 same-length c =

@@ -34,53 +34,74 @@ sub-g c =
 
 restart-requires : tie.Need-restart-requires Inv-loop μ-loop
 restart-requires c κs =
-    let start = c .before .before .before .before .before .before .before in
-    (omega (arith, c .before .count-of .ensures, column-length 0 (start .args .nodes .now), start .pre .0 .wf .nodes),
-    omega
-    (arith, c .before .count-of .ensures, column-length 0 (start .args .nodes .now), start .pre .0 .wf .nodes,
-    start .pre .0 .wf .some))
+    let start = c .before .before .before .before .before .before .before in (
+      omega (arith, c .before .count-of .ensures, column-length 0 (start .args .nodes .now), start .pre .0 .wf .nodes),
+      omega (
+        arith,
+        c .before .count-of .ensures,
+        column-length 0 (start .args .nodes .now),
+        start .pre .0 .wf .nodes,
+        start .pre .0 .wf .some,
+      ),
+    )
 
 begin-requires : tie.Need-begin-requires Inv-loop μ-loop
 begin-requires c κs =
     let start = c .before .before .before .before .before .before .before .before .before .before .before in
-    let count-of = c .before .before .before .before .before .count-of in
-    (omega (arith, start .pre .0 .wf .nodes, column-length 0 (start .args .nodes .now)),
-    omega (arith, count-of .ensures, column-length 0 (start .args .nodes .now), start .pre .0 .wf .some), omega arith)
+    let count-of = c .before .before .before .before .before .count-of in (
+      omega (arith, start .pre .0 .wf .nodes, column-length 0 (start .args .nodes .now)),
+      omega (arith, count-of .ensures, column-length 0 (start .args .nodes .now), start .pre .0 .wf .some),
+      omega arith,
+    )
 
 loop-holds : tie.Need-loop-holds Inv-loop μ-loop
 loop-holds c =
     let start = c .before .before .before .before .before .before .before .before .before .before .before .before .before .before in
     let count-of = c .before .before .before .before .before .before .before .before .count-of in
-    let begin = c .before .before .begin in
-    (begin-grown (potentials (begin .last .0)) (start .args .flows .now) (ranks (begin .last .0))
-    (parents (begin .last .0)) (rooms (begin .last .0)) (count-of .result - 1)
-    (omega
-    (arith, count-of .ensures, column-length 0 (start .args .nodes .now), start .pre .0 .wf .some,
-    column-length 0 (begin .last .0), begin .ensures .length-same))
-    (rw (begin .ensures .potentials-same) (start .pre .0 .wf)) (start .pre .0 .x-size)
-    (rw (begin .ensures .potentials-same) (start .pre .0 .p-in))
-    (rw (begin .ensures .potentials-same) (start .pre .0 .slack))
-    (omega (arith, column-length 0 (begin .last .0), column-length 2 (begin .last .0)))
-    (omega (arith, column-length 0 (begin .last .0), column-length 3 (begin .last .0)))
-    (omega (arith, column-length 0 (begin .last .0), column-length 4 (begin .last .0))) (begin .ensures .root)
-    (begin .ensures .alone) (omega (arith, begin .ensures .root-room)),
-    refl, omega (arith, count-of .ensures, column-length 0 (start .args .nodes .now), start .pre .0 .wf .some), refl)
+    let begin = c .before .before .begin in (
+      begin-grown (potentials (begin .last .0)) (start .args .flows .now) (ranks (begin .last .0))
+          (parents (begin .last .0)) (rooms (begin .last .0)) (count-of .result - 1)
+          (omega (
+            arith,
+            count-of .ensures,
+            column-length 0 (start .args .nodes .now),
+            start .pre .0 .wf .some,
+            column-length 0 (begin .last .0),
+            begin .ensures .length-same,
+          ))
+          (rw (begin .ensures .potentials-same) (start .pre .0 .wf)) (start .pre .0 .x-size)
+          (rw (begin .ensures .potentials-same) (start .pre .0 .p-in))
+          (rw (begin .ensures .potentials-same) (start .pre .0 .slack))
+          (omega (arith, column-length 0 (begin .last .0), column-length 2 (begin .last .0)))
+          (omega (arith, column-length 0 (begin .last .0), column-length 3 (begin .last .0)))
+          (omega (arith, column-length 0 (begin .last .0), column-length 4 (begin .last .0))) (begin .ensures .root)
+          (begin .ensures .alone) (omega (arith, begin .ensures .root-room)),
+      refl,
+      omega (arith, count-of .ensures, column-length 0 (start .args .nodes .now), start .pre .0 .wf .some),
+      refl,
+    )
 
 extend-requires : tie.Need-extend-requires Inv-loop μ-loop
 extend-requires c κs =
     let start = c .before .before .before .before .before .before .before .before .before .before .before .before .before .before .before .before .before .before in
     let count-of = c .before .before .before .before .before .before .before .before .before .before .before .before .count-of in
     let begin = c .before .before .before .before .before .before .begin in
-    let loop = c .before .before .before .loop in
-    (loop .inv .0,
-    flood-crosses (loop .inv .0)
-    (omega (arith, count-of .ensures, column-length 0 (loop .nodes), loop .inv .1, begin .ensures .length-same))
-    (subst (λ (k : ℕ). Rooted (net (start .args .arcs .now) (length (start .args .flows .now))) k)
-    (sym (column-length 0 (loop .nodes) ∙ ap (λ (k : ℕ). k / node-stride) (loop .inv .1 ∙ begin .ensures .length-same)))
-    (start .pre .1))
-    (omega
-    (arith, c .before .before .loop-test .taken, count-of .ensures, column-length 0 (loop .nodes), loop .inv .1,
-    begin .ensures .length-same)))
+    let loop = c .before .before .before .loop in (
+      loop .inv .0,
+      flood-crosses (loop .inv .0)
+          (omega (arith, count-of .ensures, column-length 0 (loop .nodes), loop .inv .1, begin .ensures .length-same))
+          (subst (λ (k : ℕ). Rooted (net (start .args .arcs .now) (length (start .args .flows .now))) k)
+          (sym (column-length 0 (loop .nodes) ∙ ap (λ (k : ℕ). k / node-stride) (loop .inv .1 ∙ begin .ensures .length-same)))
+          (start .pre .1))
+          (omega (
+            arith,
+            c .before .before .loop-test .taken,
+            count-of .ensures,
+            column-length 0 (loop .nodes),
+            loop .inv .1,
+            begin .ensures .length-same,
+          )),
+    )
 
 add-count : tie.Need-add-count Inv-loop μ-loop
 add-count c =
@@ -97,9 +118,12 @@ loop-again : tie.Need-loop-again Inv-loop μ-loop
 loop-again c =
     let loop = c .before .before .before .before .before .before .before .before .loop in
     let loop-test = c .before .before .before .before .before .before .before .loop-test in
-    let extend = c .before .before .before .before .extend in
-    (extend .ensures .extends .grown, extend .ensures .length-same ∙ loop .inv .1, omega (arith, loop-test .taken),
-    extend .kept .1 .1 .1 .0 ∙ loop .inv .3)
+    let extend = c .before .before .before .before .extend in (
+      extend .ensures .extends .grown,
+      extend .ensures .length-same ∙ loop .inv .1,
+      omega (arith, loop-test .taken),
+      extend .kept .1 .1 .1 .0 ∙ loop .inv .3,
+    )
 
 same-length : tie.Need-same-length Inv-loop μ-loop
 same-length c = c .before .loop .inv .1 ∙ c .before .before .before .before .begin .ensures .length-same
@@ -116,18 +140,23 @@ returns c =
     let begin = c .before .before .before .before .begin in
     record {
       grown = subst
-      (λ (s : ℕ). GrownAt (net (start .args .arcs .now) (length (start .args .flows .now))) s
-      (size (start .args .nodes .now)) (start .args .flows .now) (c .before .loop .nodes))
-      (ap (λ (k : ℕ). k - 1) (count-of .ensures))
-      (subst
-      (λ (k : ℕ). GrownAt (net (start .args .arcs .now) (length (start .args .flows .now))) (count-of .result - 1) k
-      (start .args .flows .now) (c .before .loop .nodes))
-      (omega (arith, c .loop-test .left, c .before .loop .inv .2, count-of .ensures)) (c .before .loop .inv .0));
+          (λ (s : ℕ). GrownAt (net (start .args .arcs .now) (length (start .args .flows .now))) s
+          (size (start .args .nodes .now)) (start .args .flows .now) (c .before .loop .nodes))
+          (ap (λ (k : ℕ). k - 1) (count-of .ensures))
+          (subst
+          (λ (k : ℕ). GrownAt (net (start .args .arcs .now) (length (start .args .flows .now))) (count-of .result - 1) k
+          (start .args .flows .now) (c .before .loop .nodes))
+          (omega (arith, c .loop-test .left, c .before .loop .inv .2, count-of .ensures)) (c .before .loop .inv .0));
       whole = λ v l. flood-whole (c .before .loop .inv .0)
-      (omega
-      (arith, c .loop-test .left, count-of .ensures, column-length 0 (c .before .loop .nodes), c .before .loop .inv .1,
-      begin .ensures .length-same))
-      v (omega (arith, column-length 0 (c .before .loop .nodes), c .before .loop .inv .1, begin .ensures .length-same));
+          (omega (
+            arith,
+            c .loop-test .left,
+            count-of .ensures,
+            column-length 0 (c .before .loop .nodes),
+            c .before .loop .inv .1,
+            begin .ensures .length-same,
+          ))
+          v (omega (arith, column-length 0 (c .before .loop .nodes), c .before .loop .inv .1, begin .ensures .length-same));
     }
 
 pub flood-spec : {M : Type 1} → statement M

@@ -35,12 +35,16 @@ sub-least c =
 
 get-requires : tie.Need-get-requires
 get-requires c κs =
-    let start = c .before .before .before .before .before .before .before .before in
-    (omega (arith, c .before .head-of .ensures, start .pre .0 .arc-in (start .args .i) (start .pre .1 .0) .head-in),
-    omega
-    (arith, c .before .head-of .ensures, start .pre .0 .arc-in (start .args .i) (start .pre .1 .0) .head-in,
-    start .pre .0 .nodes),
-    omega arith)
+    let start = c .before .before .before .before .before .before .before .before in (
+      omega (arith, c .before .head-of .ensures, start .pre .0 .arc-in (start .args .i) (start .pre .1 .0) .head-in),
+      omega (
+        arith,
+        c .before .head-of .ensures,
+        start .pre .0 .arc-in (start .args .i) (start .pre .1 .0) .head-in,
+        start .pre .0 .nodes,
+      ),
+      omega arith,
+    )
 
 least-requires : tie.Need-least-requires
 least-requires c κs = search needs
@@ -51,11 +55,12 @@ returns c =
     let tail-of = c .before .before .before .before .before .before .tail-of in
     let flow-of = c .before .before .before .before .before .flow-of in
     let if1 = c .before .before .before .before .if1 in
-    let high-of = c .before .before .high-of in
-    (room-up (c .least .ensures) (sym (tail-of .ensures) ∙ if1 .taken)
-    (omega (arith, flow-of .ensures, high-of .ensures))
-    (c .before .get .ensures ∙ ap (at (rooms (start .args .nodes .now))) (c .before .before .before .head-of .ensures)),
-    omega (arith, c .least .ensures .0, flow-of .ensures, high-of .ensures, high-top (start .pre .0) (start .pre .1 .0)))
+    let high-of = c .before .before .high-of in (
+      room-up (c .least .ensures) (sym (tail-of .ensures) ∙ if1 .taken)
+          (omega (arith, flow-of .ensures, high-of .ensures))
+          (c .before .get .ensures ∙ ap (at (rooms (start .args .nodes .now))) (c .before .before .before .head-of .ensures)),
+      omega (arith, c .least .ensures .0, flow-of .ensures, high-of .ensures, high-top (start .pre .0) (start .pre .1 .0)),
+    )
 
 low-of-requires : tie.Need-low-of-requires
 low-of-requires c κs =
@@ -70,11 +75,12 @@ sub-least-2 c =
 get-requires-2 : tie.Need-get-requires-2
 get-requires-2 c κs =
     let start = c .before .before .before .before .before .before .before in
-    let tail-of = c .before .before .before .tail-of in
-    (omega (arith, tail-of .ensures, start .pre .0 .arc-in (start .args .i) (start .pre .1 .0) .tail-in),
-    omega
-    (arith, tail-of .ensures, start .pre .0 .arc-in (start .args .i) (start .pre .1 .0) .tail-in, start .pre .0 .nodes),
-    omega arith)
+    let tail-of = c .before .before .before .tail-of in (
+      omega (arith, tail-of .ensures, start .pre .0 .arc-in (start .args .i) (start .pre .1 .0) .tail-in),
+      omega
+          (arith, tail-of .ensures, start .pre .0 .arc-in (start .args .i) (start .pre .1 .0) .tail-in, start .pre .0 .nodes),
+      omega arith,
+    )
 
 least-requires-2 : tie.Need-least-requires-2
 least-requires-2 c κs = search needs
@@ -84,13 +90,19 @@ returns-2 c =
     let start = c .before .before .before .before .before .before .before .before .before in
     let tail-of = c .before .before .before .before .before .tail-of in
     let flow-of = c .before .before .before .before .flow-of in
-    let low-of = c .before .before .low-of in
-    (room-down (c .least2 .ensures) (λ is. c .before .before .before .if1 .left (tail-of .ensures ∙ is))
-    (omega (arith, flow-of .ensures, low-of .ensures))
-    (c .before .get2 .ensures ∙ ap (at (rooms (start .args .nodes .now))) (tail-of .ensures)),
-    omega
-    (arith, c .least2 .ensures .0, flow-of .ensures, low-of .ensures, start .pre .1 .1 .1,
-    high-top (start .pre .0) (start .pre .1 .0)))
+    let low-of = c .before .before .low-of in (
+      room-down (c .least2 .ensures) (λ is. c .before .before .before .if1 .left (tail-of .ensures ∙ is))
+          (omega (arith, flow-of .ensures, low-of .ensures))
+          (c .before .get2 .ensures ∙ ap (at (rooms (start .args .nodes .now))) (tail-of .ensures)),
+      omega (
+        arith,
+        c .least2 .ensures .0,
+        flow-of .ensures,
+        low-of .ensures,
+        start .pre .1 .1 .1,
+        high-top (start .pre .0) (start .pre .1 .0),
+      ),
+    )
 
 pub room-over-spec : {M : Type 1} → statement M
 room-over-spec =

@@ -27,9 +27,11 @@ abbrev μ-loop : tie.MeasureT-loop
 
 get-requires : tie.Need-get-requires Inv-loop μ-loop
 get-requires c κs =
-    let start = c .before .before .before .before .before in
-    (start .pre .1 .0,
-    omega (arith, start .pre .1 .0, start .pre .0 .wf .nodes, column-length 0 (start .args .nodes .now)), omega arith)
+    let start = c .before .before .before .before .before in (
+      start .pre .1 .0,
+      omega (arith, start .pre .1 .0, start .pre .0 .wf .nodes, column-length 0 (start .args .nodes .now)),
+      omega arith,
+    )
 
 sub-room : tie.Need-sub-room Inv-loop μ-loop
 sub-room c = omega (arith, c .get .ensures, c .before .before .before .before .before .before .pre .1 .1)
@@ -39,36 +41,49 @@ count-of-requires c κs = search needs
 
 restart-requires : tie.Need-restart-requires Inv-loop μ-loop
 restart-requires c κs =
-    let start = c .before .before .before .before .before .before .before .before .before in
-    (omega (arith, c .count-of .ensures, start .pre .0 .wf .nodes, column-length 0 (start .args .nodes .now)),
-    omega (arith, start .pre .1 .0, start .pre .0 .wf .nodes, column-length 0 (start .args .nodes .now)))
+    let start = c .before .before .before .before .before .before .before .before .before in (
+      omega (arith, c .count-of .ensures, start .pre .0 .wf .nodes, column-length 0 (start .args .nodes .now)),
+      omega (arith, start .pre .1 .0, start .pre .0 .wf .nodes, column-length 0 (start .args .nodes .now)),
+    )
 
 begin-requires : tie.Need-begin-requires Inv-loop μ-loop
 begin-requires c κs =
     let start = c .before .before .before .before .before .before .before .before .before .before .before .before .before in
     let slice-known = c .before .before .before .before .before .before .before .before .before .before .slice-known in
-    let get = c .before .before .before .before .before .before .before .get in
-    (omega (arith, start .pre .0 .wf .nodes, column-length 0 (start .args .nodes .now)), start .pre .1 .0,
-    omega
-    (arith, get .ensures, column-at 1 (start .args .nodes .now) (start .args .s) (start .pre .1 .0),
-    slice-known .given (node-stride * start .args .s + 1)))
+    let get = c .before .before .before .before .before .before .before .get in (
+      omega (arith, start .pre .0 .wf .nodes, column-length 0 (start .args .nodes .now)),
+      start .pre .1 .0,
+      omega (
+        arith,
+        get .ensures,
+        column-at 1 (start .args .nodes .now) (start .args .s) (start .pre .1 .0),
+        slice-known .given (node-stride * start .args .s + 1),
+      ),
+    )
 
 loop-holds : tie.Need-loop-holds Inv-loop μ-loop
 loop-holds c =
     let start = c .before .before .before .before .before .before .before .before .before .before .before .before .before .before .before .before in
     let get = c .before .before .before .before .before .before .before .before .before .before .get in
-    let begin = c .before .before .begin in
-    (search-start (start .args .s)
-    (omega (arith, start .pre .1 .0, column-length 0 (begin .last .0), begin .ensures .length-same))
-    (rw (begin .ensures .potentials-same, begin .ensures .needs-same) (start .pre .0))
-    (omega (arith, column-length 0 (begin .last .0), column-length 2 (begin .last .0)))
-    (omega (arith, column-length 0 (begin .last .0), column-length 3 (begin .last .0)))
-    (omega (arith, column-length 0 (begin .last .0), column-length 4 (begin .last .0))) (begin .ensures .root)
-    (begin .ensures .alone) (omega (arith, begin .ensures .root-room, get .ensures, start .pre .1 .1))
-    (omega
-    (arith, begin .ensures .root-room, get .ensures, start .pre .1 .1,
-    ap (λ (l : List ℕ). getD l (start .args .s) 0) (begin .ensures .needs-same))),
-    refl, refl, refl)
+    let begin = c .before .before .begin in (
+      search-start (start .args .s)
+          (omega (arith, start .pre .1 .0, column-length 0 (begin .last .0), begin .ensures .length-same))
+          (rw (begin .ensures .potentials-same, begin .ensures .needs-same) (start .pre .0))
+          (omega (arith, column-length 0 (begin .last .0), column-length 2 (begin .last .0)))
+          (omega (arith, column-length 0 (begin .last .0), column-length 3 (begin .last .0)))
+          (omega (arith, column-length 0 (begin .last .0), column-length 4 (begin .last .0))) (begin .ensures .root)
+          (begin .ensures .alone) (omega (arith, begin .ensures .root-room, get .ensures, start .pre .1 .1))
+          (omega (
+            arith,
+            begin .ensures .root-room,
+            get .ensures,
+            start .pre .1 .1,
+            ap (λ (l : List ℕ). getD l (start .args .s) 0) (begin .ensures .needs-same),
+          )),
+      refl,
+      refl,
+      refl,
+    )
 
 extend-requires : tie.Need-extend-requires Inv-loop μ-loop
 extend-requires c κs = (c .before .before .loop .inv .0 .grown, search-crosses (c .before .before .loop .inv .0))
@@ -76,9 +91,11 @@ extend-requires c κs = (c .before .before .loop .inv .0 .grown, search-crosses 
 get-requires-2 : tie.Need-get-requires-2 Inv-loop μ-loop
 get-requires-2 c κs =
     let loop = c .before .before .before .before .before .before .before .before .loop in
-    let extend = c .before .before .before .before .before .extend in
-    (omega (arith, extend .ensures .extends .v-in, column-length 0 (loop .nodes), extend .ensures .length-same),
-    omega (arith, extend .ensures .extends .v-in, loop .inv .0 .grown .ready .wf .nodes), omega arith)
+    let extend = c .before .before .before .before .before .extend in (
+      omega (arith, extend .ensures .extends .v-in, column-length 0 (loop .nodes), extend .ensures .length-same),
+      omega (arith, extend .ensures .extends .v-in, loop .inv .0 .grown .ready .wf .nodes),
+      omega arith,
+    )
 
 same-length : tie.Need-same-length Inv-loop μ-loop
 same-length c =
@@ -102,14 +119,17 @@ returns c =
     let extend = c .before .before .before .before .before .before .before .extend in
     record {
       reached = subst
-      (λ (l : List ℕ). Reached (net (start .args .arcs .now) (length (start .args .flows .now))) (start .args .s)
-      (extend .result) (potentials (extend .last .1 .1 .0)) (start .args .flows .now) l (ranks (extend .last .1 .1 .0))
-      (parents (extend .last .1 .1 .0)) (rooms (extend .last .1 .1 .0)))
-      (sym (extend .ensures .needs-same ∙ loop .inv .2))
-      (search-found (extend .result) (loop .inv .0) (extend .ensures .extends) (extend .ensures .root-room)
-      (omega
-      (arith, c .before .get2 .ensures, c .if1 .taken,
-      ap (λ (l : List ℕ). getD l (extend .result) 0) (extend .ensures .needs-same ∙ loop .inv .2))));
+          (λ (l : List ℕ). Reached (net (start .args .arcs .now) (length (start .args .flows .now))) (start .args .s)
+          (extend .result) (potentials (extend .last .1 .1 .0)) (start .args .flows .now) l (ranks (extend .last .1 .1 .0))
+          (parents (extend .last .1 .1 .0)) (rooms (extend .last .1 .1 .0)))
+          (sym (extend .ensures .needs-same ∙ loop .inv .2))
+          (search-found (extend .result) (loop .inv .0) (extend .ensures .extends) (extend .ensures .root-room)
+          (omega (
+            arith,
+            c .before .get2 .ensures,
+            c .if1 .taken,
+            ap (λ (l : List ℕ). getD l (extend .result) 0) (extend .ensures .needs-same ∙ loop .inv .2),
+          )));
       length-same = extend .ensures .length-same ∙ (loop .inv .1 ∙ begin .ensures .length-same);
       needs-same = (extend .ensures .needs-same ∙ loop .inv .2) ∙ begin .ensures .needs-same;
     }
@@ -123,20 +143,28 @@ add-count c =
 loop-less : tie.Need-loop-less Inv-loop μ-loop
 loop-less c =
     let loop = c .before .before .before .before .before .before .before .before .before .before .loop in
-    omega
-    (arith, crossing-room (loop .inv .0 .grown) (search-crosses (loop .inv .0)), column-length 0 (loop .nodes),
-    loop .inv .1)
+    omega (
+      arith,
+      crossing-room (loop .inv .0 .grown) (search-crosses (loop .inv .0)),
+      column-length 0 (loop .nodes),
+      loop .inv .1,
+    )
 
 loop-again : tie.Need-loop-again Inv-loop μ-loop
 loop-again c =
     let loop = c .before .before .before .before .before .before .before .before .before .before .loop in
-    let extend = c .before .before .before .before .before .before .before .extend in
-    (search-next (extend .result) (loop .inv .0) (extend .ensures .extends) (extend .ensures .root-room)
-    (omega
-    (arith, c .before .get2 .ensures, c .if1 .left,
-    ap (λ (l : List ℕ). getD l (extend .result) 0) (extend .ensures .needs-same ∙ loop .inv .2))),
-    extend .ensures .length-same ∙ loop .inv .1, (extend .ensures .needs-same ∙ loop .inv .2),
-    extend .kept .1 .1 .1 .0 ∙ loop .inv .3)
+    let extend = c .before .before .before .before .before .before .before .extend in (
+      search-next (extend .result) (loop .inv .0) (extend .ensures .extends) (extend .ensures .root-room)
+          (omega (
+            arith,
+            c .before .get2 .ensures,
+            c .if1 .left,
+            ap (λ (l : List ℕ). getD l (extend .result) 0) (extend .ensures .needs-same ∙ loop .inv .2),
+          )),
+      extend .ensures .length-same ∙ loop .inv .1,
+      (extend .ensures .needs-same ∙ loop .inv .2),
+      extend .kept .1 .1 .1 .0 ∙ loop .inv .3,
+    )
 
 pub search-spec : {M : Type 1} → statement M
 search-spec =

@@ -29,14 +29,17 @@ sub-u c = search needs
 
 get-requires : tie.Need-get-requires Inv-loop μ-loop
 get-requires c κs =
-    let start = c .before .before .before .before in
-    (omega (arith, c .before .loop .inv .0, c .loop-test .taken),
-    omega (arith, c .before .loop .inv .0, c .loop-test .taken, start .pre), omega arith)
+    let start = c .before .before .before .before in (
+      omega (arith, c .before .loop .inv .0, c .loop-test .taken),
+      omega (arith, c .before .loop .inv .0, c .loop-test .taken, start .pre),
+      omega arith,
+    )
 
 returns : tie.Need-returns Inv-loop μ-loop
-returns c =
-    (omega (arith, c .before .before .before .loop .inv .0, c .before .before .loop-test .taken),
-    omega (arith, c .before .get .ensures, c .if1 .taken))
+returns c = (
+  omega (arith, c .before .before .before .loop .inv .0, c .before .before .loop-test .taken),
+  omega (arith, c .before .get .ensures, c .if1 .taken),
+)
 
 loop-less : tie.Need-loop-less Inv-loop μ-loop
 loop-less c = omega (arith, c .before .before .loop-test .taken)
@@ -44,10 +47,11 @@ loop-less c = omega (arith, c .before .before .loop-test .taken)
 loop-again : tie.Need-loop-again Inv-loop μ-loop
 loop-again c =
     let start = c .before .before .before .before .before .before in
-    let loop = c .before .before .before .loop in
-    (omega (arith, loop .inv .0),
-    λ k l m. elim (ℕ-discrete k (loop .v - 1))
-    [ yes e ↦ omega (arith, ap (at (column 1 (start .args .nodes .now))) e, c .before .get .ensures, c .if1 .left) | no ne ↦ loop .inv .1 k (omega (arith, c .before .before .loop-test .taken)) m ])
+    let loop = c .before .before .before .loop in (
+      omega (arith, loop .inv .0),
+      λ k l m. elim (ℕ-discrete k (loop .v - 1))
+          [ yes e ↦ omega (arith, ap (at (column 1 (start .args .nodes .now))) e, c .before .get .ensures, c .if1 .left) | no ne ↦ loop .inv .1 k (omega (arith, c .before .before .loop-test .taken)) m ],
+    )
 
 returns-2 : tie.Need-returns-2 Inv-loop μ-loop
 returns-2 c = λ k m. c .before .loop .inv .1 k (omega (arith, c .loop-test .left)) m

@@ -26,29 +26,37 @@ sub-less c =
     let start = c .before .before .before .before .before .before .before .before .before in
     let get = c .before .before .before .before .before .before .get in
     let put = c .before .before .before .before .put in
-    omega
-    (arith, c .get2 .ensures,
-    charge-enough (start .args .nodes .now) (put .last .0) (put .last .0) (start .args .t) (start .args .h)
-    (start .args .a) (get .result + start .args .a) 0 (start .pre .0 .1) (start .pre .0 .0) (start .pre .1 .1)
-    (ap (λ (b : ℕ). b + start .args .a) (get .ensures)) (put .ensures) .0)
+    omega (
+      arith,
+      c .get2 .ensures,
+      charge-enough (start .args .nodes .now) (put .last .0) (put .last .0) (start .args .t) (start .args .h)
+          (start .args .a) (get .result + start .args .a) 0 (start .pre .0 .1) (start .pre .0 .0) (start .pre .1 .1)
+          (ap (λ (b : ℕ). b + start .args .a) (get .ensures)) (put .ensures) .0,
+    )
 
 put-requires-2 : tie.Need-put-requires-2
 put-requires-2 c κs =
     let start = c .before .before .before .before .before .before .before .before .before .before in
     let slice-known = c .before .before .before .before .before .before .before .before .before .slice-known in
     let get = c .before .before .before .before .before .before .before .get in
-    let put = c .before .before .before .before .before .put in
-    (omega (arith, start .pre .0 .0, put .ensures .length-same), omega (arith, start .pre .0 .0, start .pre .0 .2),
-    omega arith,
-    omega
-    (arith, c .before .get2 .ensures,
-    charge-enough (start .args .nodes .now) (put .last .0) (put .last .0) (start .args .t) (start .args .h)
-    (start .args .a) (get .result + start .args .a) 0 (start .pre .0 .1) (start .pre .0 .0) (start .pre .1 .1)
-    (ap (λ (b : ℕ). b + start .args .a) (get .ensures)) (put .ensures) .1 4294967296
-    (omega (arith, get .ensures, start .pre .1 .0))
-    (omega
-    (arith, column-at 1 (start .args .nodes .now) (start .args .h) (start .pre .0 .0),
-    slice-known .given (node-stride * start .args .h + 1)))))
+    let put = c .before .before .before .before .before .put in (
+      omega (arith, start .pre .0 .0, put .ensures .length-same),
+      omega (arith, start .pre .0 .0, start .pre .0 .2),
+      omega arith,
+      omega (
+        arith,
+        c .before .get2 .ensures,
+        charge-enough (start .args .nodes .now) (put .last .0) (put .last .0) (start .args .t) (start .args .h)
+            (start .args .a) (get .result + start .args .a) 0 (start .pre .0 .1) (start .pre .0 .0) (start .pre .1 .1)
+            (ap (λ (b : ℕ). b + start .args .a) (get .ensures)) (put .ensures) .1 4294967296
+            (omega (arith, get .ensures, start .pre .1 .0))
+            (omega (
+              arith,
+              column-at 1 (start .args .nodes .now) (start .args .h) (start .pre .0 .0),
+              slice-known .given (node-stride * start .args .h + 1),
+            )),
+      ),
+    )
 
 same-length : tie.Need-same-length
 same-length c = search needs

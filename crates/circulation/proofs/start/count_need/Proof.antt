@@ -26,10 +26,11 @@ fill-requires c κs = (omega (arith, c .before .before .before .before .pre .0 .
 
 loop-holds : tie.Need-loop-holds Inv-loop μ-loop
 loop-holds c =
-    let fill = c .before .before .fill in
-    (count-start (column 1 (fill .last .0)) (column-length 1 (fill .last .0))
-    (λ v l. fill .ensures .0 v (omega (arith, fill .ensures .1 .length-same))),
-    apart-start 1 (fill .last .0))
+    let fill = c .before .before .fill in (
+      count-start (column 1 (fill .last .0)) (column-length 1 (fill .last .0))
+          (λ v l. fill .ensures .0 v (omega (arith, fill .ensures .1 .length-same))),
+      apart-start 1 (fill .last .0),
+    )
 
 tail-of-requires : tie.Need-tail-of-requires Inv-loop μ-loop
 tail-of-requires c κs =
@@ -38,9 +39,10 @@ tail-of-requires c κs =
 
 head-of-requires : tie.Need-head-of-requires Inv-loop μ-loop
 head-of-requires c κs =
-    let start = c .before .before .before .before .before .before .before .before .before .before in
-    (omega (arith, start .pre .0 .room, c .before .loop-test .taken),
-    omega (arith, start .pre .0 .few, c .before .loop-test .taken))
+    let start = c .before .before .before .before .before .before .before .before .before .before in (
+      omega (arith, start .pre .0 .room, c .before .loop-test .taken),
+      omega (arith, start .pre .0 .few, c .before .loop-test .taken),
+    )
 
 flow-of-requires : tie.Need-flow-of-requires Inv-loop μ-loop
 flow-of-requires c κs =
@@ -55,28 +57,55 @@ charge-requires c κs =
     let loop = c .before .before .before .before .before .loop in
     let loop-test = c .before .before .before .before .loop-test in
     let tail-of = c .before .before .before .tail-of in
-    let head-of = c .before .before .head-of in
-    (((omega
-    (arith, head-of .ensures, start .pre .0 .arc-in (loop .i) (loop-test .taken) .head-in,
-    fill .ensures .1 .length-same, loop .inv .1 .length-same)),
-    (omega
-    (arith, tail-of .ensures, start .pre .0 .arc-in (loop .i) (loop-test .taken) .tail-in,
-    fill .ensures .1 .length-same, loop .inv .1 .length-same)),
-    omega (arith, start .pre .0 .nodes, fill .ensures .1 .length-same, loop .inv .1 .length-same)),
-    (omega
-    (arith,
-    count-range (loop .inv .0) (loop-test .taken) (start .pre .0 .few) (start .pre .1) (tail-of .result)
-    (omega
-    (arith, tail-of .ensures, start .pre .0 .arc-in (loop .i) (loop-test .taken) .tail-in,
-    fill .ensures .1 .length-same, loop .inv .1 .length-same)) .1,
-    c .flow-of .ensures, start .pre .1 (loop .i) (loop-test .taken) .0, start .pre .1 (loop .i) (loop-test .taken) .1),
-    omega
-    (arith,
-    count-range (loop .inv .0) (loop-test .taken) (start .pre .0 .few) (start .pre .1) (head-of .result)
-    (omega
-    (arith, head-of .ensures, start .pre .0 .arc-in (loop .i) (loop-test .taken) .head-in,
-    fill .ensures .1 .length-same, loop .inv .1 .length-same)) .0,
-    c .flow-of .ensures, start .pre .1 (loop .i) (loop-test .taken) .0, start .pre .1 (loop .i) (loop-test .taken) .1)))
+    let head-of = c .before .before .head-of in (
+      (
+        (omega (
+          arith,
+          head-of .ensures,
+          start .pre .0 .arc-in (loop .i) (loop-test .taken) .head-in,
+          fill .ensures .1 .length-same,
+          loop .inv .1 .length-same,
+        )),
+        (omega (
+          arith,
+          tail-of .ensures,
+          start .pre .0 .arc-in (loop .i) (loop-test .taken) .tail-in,
+          fill .ensures .1 .length-same,
+          loop .inv .1 .length-same,
+        )),
+        omega (arith, start .pre .0 .nodes, fill .ensures .1 .length-same, loop .inv .1 .length-same),
+      ),
+      (
+        omega (
+          arith,
+          count-range (loop .inv .0) (loop-test .taken) (start .pre .0 .few) (start .pre .1) (tail-of .result)
+              (omega (
+                arith,
+                tail-of .ensures,
+                start .pre .0 .arc-in (loop .i) (loop-test .taken) .tail-in,
+                fill .ensures .1 .length-same,
+                loop .inv .1 .length-same,
+              )) .1,
+          c .flow-of .ensures,
+          start .pre .1 (loop .i) (loop-test .taken) .0,
+          start .pre .1 (loop .i) (loop-test .taken) .1,
+        ),
+        omega (
+          arith,
+          count-range (loop .inv .0) (loop-test .taken) (start .pre .0 .few) (start .pre .1) (head-of .result)
+              (omega (
+                arith,
+                head-of .ensures,
+                start .pre .0 .arc-in (loop .i) (loop-test .taken) .head-in,
+                fill .ensures .1 .length-same,
+                loop .inv .1 .length-same,
+              )) .0,
+          c .flow-of .ensures,
+          start .pre .1 (loop .i) (loop-test .taken) .0,
+          start .pre .1 (loop .i) (loop-test .taken) .1,
+        ),
+      ),
+    )
 
 charge-requires-2 : tie.Need-charge-requires-2 Inv-loop μ-loop
 charge-requires-2 c κs =
@@ -87,30 +116,67 @@ charge-requires-2 c κs =
     let tail-of = c .before .before .before .before .before .before .before .tail-of in
     let head-of = c .before .before .before .before .before .before .head-of in
     let flow-of = c .before .before .before .before .flow-of in
-    let charge = c .before .before .before .charge in
-    ((omega
-    (arith, tail-of .ensures, start .pre .0 .arc-in (loop .i) (loop-test .taken) .tail-in,
-    fill .ensures .1 .length-same, loop .inv .1 .length-same, charge .ensures .1 .length-same),
-    omega
-    (arith, head-of .ensures, start .pre .0 .arc-in (loop .i) (loop-test .taken) .head-in,
-    fill .ensures .1 .length-same, loop .inv .1 .length-same, charge .ensures .1 .length-same),
-    omega
-    (arith, start .pre .0 .nodes, fill .ensures .1 .length-same, loop .inv .1 .length-same,
-    charge .ensures .1 .length-same)),
-    (omega
-    (arith, charge .ensures .0 (head-of .result), pick-le (tail-of .result) (head-of .result) (flow-of .result),
-    count-range (loop .inv .0) (loop-test .taken) (start .pre .0 .few) (start .pre .1) (head-of .result)
-    (omega
-    (arith, head-of .ensures, start .pre .0 .arc-in (loop .i) (loop-test .taken) .head-in,
-    fill .ensures .1 .length-same, loop .inv .1 .length-same)) .1,
-    flow-of .ensures, start .pre .1 (loop .i) (loop-test .taken) .0, start .pre .1 (loop .i) (loop-test .taken) .1),
-    omega
-    (arith, charge .ensures .0 (tail-of .result), pick-le (head-of .result) (tail-of .result) (flow-of .result),
-    count-range (loop .inv .0) (loop-test .taken) (start .pre .0 .few) (start .pre .1) (tail-of .result)
-    (omega
-    (arith, tail-of .ensures, start .pre .0 .arc-in (loop .i) (loop-test .taken) .tail-in,
-    fill .ensures .1 .length-same, loop .inv .1 .length-same)) .0,
-    flow-of .ensures, start .pre .1 (loop .i) (loop-test .taken) .0, start .pre .1 (loop .i) (loop-test .taken) .1)))
+    let charge = c .before .before .before .charge in (
+      (
+        omega (
+          arith,
+          tail-of .ensures,
+          start .pre .0 .arc-in (loop .i) (loop-test .taken) .tail-in,
+          fill .ensures .1 .length-same,
+          loop .inv .1 .length-same,
+          charge .ensures .1 .length-same,
+        ),
+        omega (
+          arith,
+          head-of .ensures,
+          start .pre .0 .arc-in (loop .i) (loop-test .taken) .head-in,
+          fill .ensures .1 .length-same,
+          loop .inv .1 .length-same,
+          charge .ensures .1 .length-same,
+        ),
+        omega (
+          arith,
+          start .pre .0 .nodes,
+          fill .ensures .1 .length-same,
+          loop .inv .1 .length-same,
+          charge .ensures .1 .length-same,
+        ),
+      ),
+      (
+        omega (
+          arith,
+          charge .ensures .0 (head-of .result),
+          pick-le (tail-of .result) (head-of .result) (flow-of .result),
+          count-range (loop .inv .0) (loop-test .taken) (start .pre .0 .few) (start .pre .1) (head-of .result)
+              (omega (
+                arith,
+                head-of .ensures,
+                start .pre .0 .arc-in (loop .i) (loop-test .taken) .head-in,
+                fill .ensures .1 .length-same,
+                loop .inv .1 .length-same,
+              )) .1,
+          flow-of .ensures,
+          start .pre .1 (loop .i) (loop-test .taken) .0,
+          start .pre .1 (loop .i) (loop-test .taken) .1,
+        ),
+        omega (
+          arith,
+          charge .ensures .0 (tail-of .result),
+          pick-le (head-of .result) (tail-of .result) (flow-of .result),
+          count-range (loop .inv .0) (loop-test .taken) (start .pre .0 .few) (start .pre .1) (tail-of .result)
+              (omega (
+                arith,
+                tail-of .ensures,
+                start .pre .0 .arc-in (loop .i) (loop-test .taken) .tail-in,
+                fill .ensures .1 .length-same,
+                loop .inv .1 .length-same,
+              )) .0,
+          flow-of .ensures,
+          start .pre .1 (loop .i) (loop-test .taken) .0,
+          start .pre .1 (loop .i) (loop-test .taken) .1,
+        ),
+      ),
+    )
 
 add-i : tie.Need-add-i Inv-loop μ-loop
 add-i c = search needs
@@ -129,24 +195,30 @@ loop-again c =
     let head-of = c .before .before .before .before .before .before .before .before .before .head-of in
     let flow-of = c .before .before .before .before .before .before .before .flow-of in
     let charge = c .before .before .before .before .before .before .charge in
-    let charge2 = c .before .before .charge2 in
-    (count-next (loop .inv .0) (loop-test .taken) (start .pre .0 .few) (start .pre .1) (column 1 (charge .last .0))
-    (column 1 (charge2 .last .0))
-    (omega
-    (arith, column-length 1 (charge2 .last .0), column-length 1 (loop .nodes), charge2 .ensures .1 .length-same,
-    charge .ensures .1 .length-same))
-    (rw (← head-of .ensures, ← tail-of .ensures, ← flow-of .ensures) (charge .ensures .0))
-    (rw (← head-of .ensures, ← tail-of .ensures) (charge2 .ensures .0)),
-    apart-join (loop .inv .1) (apart-join (charge .ensures .1) (charge2 .ensures .1)))
+    let charge2 = c .before .before .charge2 in (
+      count-next (loop .inv .0) (loop-test .taken) (start .pre .0 .few) (start .pre .1) (column 1 (charge .last .0))
+          (column 1 (charge2 .last .0))
+          (omega (
+            arith,
+            column-length 1 (charge2 .last .0),
+            column-length 1 (loop .nodes),
+            charge2 .ensures .1 .length-same,
+            charge .ensures .1 .length-same,
+          ))
+          (rw (← head-of .ensures, ← tail-of .ensures, ← flow-of .ensures) (charge .ensures .0))
+          (rw (← head-of .ensures, ← tail-of .ensures) (charge2 .ensures .0)),
+      apart-join (loop .inv .1) (apart-join (charge .ensures .1) (charge2 .ensures .1)),
+    )
 
 same-length : tie.Need-same-length Inv-loop μ-loop
 same-length c = c .before .loop .inv .1 .length-same ∙ c .before .before .before .before .fill .ensures .1 .length-same
 
 returns : tie.Need-returns Inv-loop μ-loop
 returns c =
-    let fill = c .before .before .before .before .fill in
-    (λ v l. count-all (c .before .loop .inv .0) (c .loop-test .left) v (omega (arith, fill .ensures .1 .length-same)),
-    apart-join (fill .ensures .1) (c .before .loop .inv .1))
+    let fill = c .before .before .before .before .fill in (
+      λ v l. count-all (c .before .loop .inv .0) (c .loop-test .left) v (omega (arith, fill .ensures .1 .length-same)),
+      apart-join (fill .ensures .1) (c .before .loop .inv .1),
+    )
 
 pub count-need-spec : {M : Type 1} → statement M
 count-need-spec =

@@ -11,9 +11,10 @@ use Rattle.circulation.proofs.start.first_flow.Tie as tie
 use Rattle.network.specs.Packed.{kink-zero}
 
 tail-of-requires : tie.Need-tail-of-requires
-tail-of-requires c κs =
-    (omega (arith, c .before .before .pre .0 .room, c .before .before .pre .1 .1),
-    omega (arith, c .before .before .pre .0 .few, c .before .before .pre .1 .1))
+tail-of-requires c κs = (
+  omega (arith, c .before .before .pre .0 .room, c .before .before .pre .1 .1),
+  omega (arith, c .before .before .pre .0 .few, c .before .before .pre .1 .1),
+)
 
 head-of-requires : tie.Need-head-of-requires
 head-of-requires c κs =
@@ -27,12 +28,16 @@ kink-of-requires c κs =
 
 get-requires : tie.Need-get-requires
 get-requires c κs =
-    let start = c .before .before .before .before .before in
-    (omega (arith, c .before .head-of .ensures, start .pre .0 .arc-in (start .args .i) (start .pre .1 .1) .head-in),
-    omega
-    (arith, c .before .head-of .ensures, start .pre .0 .arc-in (start .args .i) (start .pre .1 .1) .head-in,
-    start .pre .0 .nodes),
-    omega arith)
+    let start = c .before .before .before .before .before in (
+      omega (arith, c .before .head-of .ensures, start .pre .0 .arc-in (start .args .i) (start .pre .1 .1) .head-in),
+      omega (
+        arith,
+        c .before .head-of .ensures,
+        start .pre .0 .arc-in (start .args .i) (start .pre .1 .1) .head-in,
+        start .pre .0 .nodes,
+      ),
+      omega arith,
+    )
 
 add-stands : tie.Need-add-stands
 add-stands c =
@@ -42,19 +47,24 @@ add-stands c =
 get-requires-2 : tie.Need-get-requires-2
 get-requires-2 c κs =
     let start = c .before .before .before .before .before .before in
-    let tail-of = c .before .before .before .tail-of in
-    (omega (arith, tail-of .ensures, start .pre .0 .arc-in (start .args .i) (start .pre .1 .1) .tail-in),
-    omega
-    (arith, tail-of .ensures, start .pre .0 .arc-in (start .args .i) (start .pre .1 .1) .tail-in, start .pre .0 .nodes),
-    omega arith)
+    let tail-of = c .before .before .before .tail-of in (
+      omega (arith, tail-of .ensures, start .pre .0 .arc-in (start .args .i) (start .pre .1 .1) .tail-in),
+      omega
+          (arith, tail-of .ensures, start .pre .0 .arc-in (start .args .i) (start .pre .1 .1) .tail-in, start .pre .0 .nodes),
+      omega arith,
+    )
 
 add-asks : tie.Need-add-asks
 add-asks c =
     let start = c .before .before .before .before .before .before .before in
     let tail-of = c .before .before .before .before .tail-of in
-    omega
-    (arith, c .get2 .ensures, start .pre .1 .0 (tail-of .result), c .before .before .kink-of .ensures,
-    start .pre .0 .arc-in (start .args .i) (start .pre .1 .1) .kink-in)
+    omega (
+      arith,
+      c .get2 .ensures,
+      start .pre .1 .0 (tail-of .result),
+      c .before .before .kink-of .ensures,
+      start .pre .0 .arc-in (start .args .i) (start .pre .1 .1) .kink-in,
+    )
 
 low-of-requires : tie.Need-low-of-requires
 low-of-requires c κs =

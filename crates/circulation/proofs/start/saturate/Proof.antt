@@ -35,14 +35,16 @@ set-flow-requires : tie.Need-set-flow-requires Inv-loop μ-loop
 set-flow-requires c κs =
     let start = c .before .before .before .before .before .before .before in
     let loop = c .before .before .before .loop in
-    let loop-test = c .before .before .loop-test in
-    (omega (arith, loop .inv .1, loop .inv .2, loop-test .taken),
-    omega (arith, loop .inv .1, start .pre .wf .few, loop-test .taken),
-    omega
-    (arith,
-    filled-top (net (start .args .arcs .now) (length (start .args .flows .now))) (size (start .args .nodes .now))
-    (at (potentials (start .args .nodes .now))) (loop .i) (c .before .first-flow .result)
-    (start .pre .wf .arc-in (loop .i) (omega (arith, loop .inv .1, loop-test .taken))) (c .before .first-flow .ensures)))
+    let loop-test = c .before .before .loop-test in (
+      omega (arith, loop .inv .1, loop .inv .2, loop-test .taken),
+      omega (arith, loop .inv .1, start .pre .wf .few, loop-test .taken),
+      omega (
+        arith,
+        filled-top (net (start .args .arcs .now) (length (start .args .flows .now))) (size (start .args .nodes .now))
+            (at (potentials (start .args .nodes .now))) (loop .i) (c .before .first-flow .result)
+            (start .pre .wf .arc-in (loop .i) (omega (arith, loop .inv .1, loop-test .taken))) (c .before .first-flow .ensures),
+      ),
+    )
 
 add-i : tie.Need-add-i Inv-loop μ-loop
 add-i c = search needs
@@ -56,14 +58,17 @@ loop-again c =
     let loop = c .before .before .before .before .before .before .loop in
     let loop-test = c .before .before .before .before .before .loop-test in
     let first-flow = c .before .before .before .before .first-flow in
-    let set-flow = c .before .before .set-flow in
-    (omega (arith, loop-test .taken), loop .inv .1, set-flow .kept .0 ∙ loop .inv .2,
-    rw (set-flow .ensures)
-    (store-more
-    (λ k a. FilledAt (net (start .args .arcs .now) (length (start .args .flows .now)))
-    (at (potentials (start .args .nodes .now))) k a)
-    (loop .flows) (loop .i) (first-flow .result) (omega (arith, loop .inv .1, loop .inv .2, loop-test .taken))
-    (loop .inv .3) (first-flow .ensures)))
+    let set-flow = c .before .before .set-flow in (
+      omega (arith, loop-test .taken),
+      loop .inv .1,
+      set-flow .kept .0 ∙ loop .inv .2,
+      rw (set-flow .ensures)
+          (store-more
+          (λ k a. FilledAt (net (start .args .arcs .now) (length (start .args .flows .now)))
+          (at (potentials (start .args .nodes .now))) k a)
+          (loop .flows) (loop .i) (first-flow .result) (omega (arith, loop .inv .1, loop .inv .2, loop-test .taken))
+          (loop .inv .3) (first-flow .ensures)),
+    )
 
 same-length : tie.Need-same-length Inv-loop μ-loop
 same-length c = c .before .loop .inv .2

@@ -35,11 +35,12 @@ loop-less : tie.Need-loop-less Inv-loop μ-loop
 loop-less c = search needs
 
 loop-again : tie.Need-loop-again Inv-loop μ-loop
-loop-again c =
-    (omega arith,
-    below-more _ _ (c .before .before .before .loop .inv .1)
-    (tested-yes (c .before .arc-ok .result) (c .before .arc-ok .ensures)
-    (not-false (c .before .arc-ok .result) (c .if1 .left))))
+loop-again c = (
+  omega arith,
+  below-more _ _ (c .before .before .before .loop .inv .1)
+      (tested-yes (c .before .arc-ok .result) (c .before .arc-ok .ensures)
+      (not-false (c .before .arc-ok .result) (c .if1 .left))),
+)
 
 returns-2 : tie.Need-returns-2 Inv-loop μ-loop
 returns-2 c = record { each = λ i l. c .before .loop .inv .1 i (omega (arith, c .loop-test .left)) }

@@ -64,10 +64,13 @@ same-length c = search needs
 returns-4 : tie.Need-returns-4
 returns-4 c =
     let start = c .before .before .before .before .before .before .before .before in
-    let wide = c .before .before .before .before .before .wide in
-    (ap (λ (x : ℕ). set (start .args .values .now) (start .args .to) (x + start .args .a - start .args .b))
-    (wide .ensures .0),
-    omega arith, omega arith, omega arith)
+    let wide = c .before .before .before .before .before .wide in (
+      ap (λ (x : ℕ). set (start .args .values .now) (start .args .to) (x + start .args .a - start .args .b))
+          (wide .ensures .0),
+      omega arith,
+      omega arith,
+      omega arith,
+    )
 
 pub relax-spec : {M : Type 1} → statement M
 relax-spec =

@@ -32,9 +32,11 @@ loop-less : tie.Need-loop-less Inv-loop μ-loop
 loop-less c = search needs
 
 loop-again : tie.Need-loop-again Inv-loop μ-loop
-loop-again c =
-    (omega arith, search needs,
-    zeros-more (c .before .loop .values) (c .before .loop .u) (omega arith) (c .before .loop .inv .2))
+loop-again c = (
+  omega arith,
+  search needs,
+  zeros-more (c .before .loop .values) (c .before .loop .u) (omega arith) (c .before .loop .inv .2),
+)
 
 same-length : tie.Need-same-length Inv-loop μ-loop
 same-length c = search needs

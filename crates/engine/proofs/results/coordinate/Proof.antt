@@ -18,9 +18,11 @@ sub-result c = omega (arith, c .before .pre .0 .least (c .before .args .v) (c .b
 
 cast-result : tie.Need-cast-result
 cast-result c =
-    omega
-    (arith, c .before .pre .0 .least (c .before .args .v) (c .before .pre .1),
-    c .before .pre .0 .small (c .before .args .v) (c .before .pre .1))
+    omega (
+      arith,
+      c .before .pre .0 .least (c .before .args .v) (c .before .pre .1),
+      c .before .pre .0 .small (c .before .args .v) (c .before .pre .1),
+    )
 
 returns : tie.Need-returns
 returns c = search needs

@@ -59,11 +59,12 @@ loop-again c =
     let r : ℤ = c .signed .result in
     let is : r ≡ number-at flows i = c .signed .ensures in
     let fits : SFits w32 r =
-        size-fits (omega (arith, ap natAbs is, number-size (getD flows i 0) (start .pre .0 .small i (omega arith)))) in
-    (omega arith,
-    filled-store (pos 0) i (number-at flows) old (loop .list) (toZ w32 (ofZ w32 r)) (loop .inv .1) (toZ-ofZ fits ∙ is)
-    (omega (arith, start .pre .1)),
-    length-set (loop .list) i (toZ w32 (ofZ w32 r)) ∙ loop .inv .2, )
+    size-fits (omega (arith, ap natAbs is, number-size (getD flows i 0) (start .pre .0 .small i (omega arith)))) in (
+      omega arith,
+      filled-store (pos 0) i (number-at flows) old (loop .list) (toZ w32 (ofZ w32 r)) (loop .inv .1) (toZ-ofZ fits ∙ is)
+          (omega (arith, start .pre .1)),
+      length-set (loop .list) i (toZ w32 (ofZ w32 r)) ∙ loop .inv .2,
+    )
 
 same-length : tie.Need-same-length Inv-loop μ-loop
 same-length c = search needs

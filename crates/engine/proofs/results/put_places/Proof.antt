@@ -18,9 +18,11 @@ abbrev μ-loop : tie.MeasureT-loop
 μ-loop nodes count places₀ v₀ places v = count - v
 
 loop-holds : tie.Need-loop-holds Inv-loop μ-loop
-loop-holds c =
-    (omega arith,
-    sym (filled-none (place-at (c .before .before .args .nodes .now)) (c .before .before .args .places .now)), refl)
+loop-holds c = (
+  omega arith,
+  sym (filled-none (place-at (c .before .before .args .nodes .now)) (c .before .before .args .places .now)),
+  refl,
+)
 
 coordinate-requires : tie.Need-coordinate-requires Inv-loop μ-loop
 coordinate-requires c κs = search needs
@@ -42,11 +44,12 @@ loop-again c =
     let start = c .before .before .before .before .before in
     let loop = c .before .before .loop in
     let f : ℕ → ℕ = place-at (start .args .nodes .now) in
-    let v : ℕ = loop .v in
-    (omega arith,
-    filled-store 0 v f (start .args .places .now) (loop .places) (c .coordinate .result) (loop .inv .1)
-    (c .coordinate .ensures) (omega (arith, start .pre .1)),
-    length-set (loop .places) v (c .coordinate .result) ∙ loop .inv .2, )
+    let v : ℕ = loop .v in (
+      omega arith,
+      filled-store 0 v f (start .args .places .now) (loop .places) (c .coordinate .result) (loop .inv .1)
+          (c .coordinate .ensures) (omega (arith, start .pre .1)),
+      length-set (loop .places) v (c .coordinate .result) ∙ loop .inv .2,
+    )
 
 same-length : tie.Need-same-length Inv-loop μ-loop
 same-length c = search needs

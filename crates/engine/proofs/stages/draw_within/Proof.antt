@@ -43,18 +43,22 @@ finish-requires c κs =
     let if1 = c .before .before .before .before .before .before .before .before .before .before .before .before .before .if1 in
     let solve = c .before .before .before .before .before .before .before .before .before .solve in
     let solved =
-        solved-from {c = entry .args .counts} (entry .args .flows .now) (start .last .1 .1 .0) _ _ _ _ (solve .result)
-        (entry .pre .1 .flows-are) (start .kept .1 .1 .0 ∙ entry .pre .1 .nodes-are)
-        (is-started (entry .args .arcs .now) (entry .args .counts .arcs) (entry .args .counts .nodes + 1)
-        (start .last .1 .1 .0) (start .result) (start .ensures) (not-false (start .result) (if1 .left)))
-        (solve .ensures) in
-    (entry .pre .0,
-    (record {
-      flows-are = solved .flows-size ∙ entry .pre .1 .flows-are;
-      nodes-are = solved .nodes-size ∙ (start .kept .1 .1 .0 ∙ entry .pre .1 .nodes-are);
-      places-enough = entry .pre .1 .places-enough;
-      list-enough = entry .pre .1 .list-enough;
-    }, solved .settled))
+    solved-from {c = entry .args .counts} (entry .args .flows .now) (start .last .1 .1 .0) _ _ _ _ (solve .result)
+    (entry .pre .1 .flows-are) (start .kept .1 .1 .0 ∙ entry .pre .1 .nodes-are)
+    (is-started (entry .args .arcs .now) (entry .args .counts .arcs) (entry .args .counts .nodes + 1)
+    (start .last .1 .1 .0) (start .result) (start .ensures) (not-false (start .result) (if1 .left)))
+    (solve .ensures) in (
+      entry .pre .0,
+      (
+        record {
+          flows-are = solved .flows-size ∙ entry .pre .1 .flows-are;
+          nodes-are = solved .nodes-size ∙ (start .kept .1 .1 .0 ∙ entry .pre .1 .nodes-are);
+          places-enough = entry .pre .1 .places-enough;
+          list-enough = entry .pre .1 .list-enough;
+        },
+        solved .settled,
+      ),
+    )
 
 same-length-2 : tie.Need-same-length-2
 same-length-2 c = search needs

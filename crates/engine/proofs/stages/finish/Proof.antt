@@ -12,17 +12,19 @@ mul-end c = omega (arith, edges-few (c .before .before .before .before .before .
 
 put-places-requires : tie.Need-put-places-requires
 put-places-requires c κs =
-    let start = c .before .before .before .before .before .before in
-    (places-fit (start .pre .0) (start .args .flows .now) (start .args .nodes .now) (start .pre .1 .0 .flows-are)
-    (start .pre .1 .0 .nodes-are) (start .pre .1 .1),
-    start .pre .1 .0 .places-enough)
+    let start = c .before .before .before .before .before .before in (
+      places-fit (start .pre .0) (start .args .flows .now) (start .args .nodes .now) (start .pre .1 .0 .flows-are)
+          (start .pre .1 .0 .nodes-are) (start .pre .1 .1),
+      start .pre .1 .0 .places-enough,
+    )
 
 put-list-requires : tie.Need-put-list-requires
 put-list-requires c κs =
-    let start = c .before .before .before .before .before .before .before .before .before .before in
-    (flows-fit (start .pre .0) (start .args .flows .now) (start .args .nodes .now) (start .pre .1 .0 .flows-are)
-    (start .pre .1 .0 .nodes-are) (start .pre .1 .1),
-    omega (arith, start .pre .1 .0 .flows-are, start .pre .1 .0 .list-enough))
+    let start = c .before .before .before .before .before .before .before .before .before .before in (
+      flows-fit (start .pre .0) (start .args .flows .now) (start .args .nodes .now) (start .pre .1 .0 .flows-are)
+          (start .pre .1 .0 .nodes-are) (start .pre .1 .1),
+      omega (arith, start .pre .1 .0 .flows-are, start .pre .1 .0 .list-enough),
+    )
 
 sub-total : tie.Need-sub-total
 sub-total c = search needs

@@ -48,10 +48,11 @@ loop-again c =
     let loop = c .before .before .loop in
     let values : List ℕ = start .args .values .now in
     let old : List ℕ = start .args .nodes .now in
-    let v : ℕ = loop .v in
-    (omega arith,
-    ap (λ (l : List ℕ). set l (node-stride * v) (getD values v 0)) (loop .inv .1) ∙ sym (potentials-next v values old),
-    length-set (loop .nodes) (node-stride * v) (getD values v 0) ∙ loop .inv .2, )
+    let v : ℕ = loop .v in (
+      omega arith,
+      ap (λ (l : List ℕ). set l (node-stride * v) (getD values v 0)) (loop .inv .1) ∙ sym (potentials-next v values old),
+      length-set (loop .nodes) (node-stride * v) (getD values v 0) ∙ loop .inv .2,
+    )
 
 same-length : tie.Need-same-length Inv-loop μ-loop
 same-length c = search needs

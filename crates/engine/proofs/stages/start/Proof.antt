@@ -20,10 +20,11 @@ slice-aggregate-set-potentials c = search needs
 
 set-potentials-requires : tie.Need-set-potentials-requires
 set-potentials-requires c κs =
-    let start = c .before .before .before .before .before .before .before .before in
-    (omega (arith, start .pre .1),
-    omega (arith, nodes-few (start .pre .0), c .before .before .before .least .kept .1 .1 .1 .0),
-    omega (arith, nodes-few (start .pre .0)))
+    let start = c .before .before .before .before .before .before .before .before in (
+      omega (arith, start .pre .1),
+      omega (arith, nodes-few (start .pre .0), c .before .before .before .least .kept .1 .1 .1 .0),
+      omega (arith, nodes-few (start .pre .0)),
+    )
 
 found-requires : tie.Need-found-requires
 found-requires c κs = search needs

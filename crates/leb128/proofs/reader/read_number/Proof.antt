@@ -48,16 +48,21 @@ returns-2 c =
 mul-t14 : tie.Need-mul-t14 Inv-loop μ-loop
 mul-t14 c =
     let loop = c .before .before .before .before .before .before .before .loop in
-    omega
-    (arith, weight-most (loop .inv) (omega arith),
-    group-most (loop .inv) (omega arith) (c .before .before .before .wide .result) (omega arith))
+    omega (
+      arith,
+      weight-most (loop .inv) (omega arith),
+      group-most (loop .inv) (omega arith) (c .before .before .before .wide .result) (omega arith),
+    )
 
 add-t15 : tie.Need-add-t15 Inv-loop μ-loop
 add-t15 c =
     let loop = c .before .before .before .before .before .before .before .loop in
-    omega
-    (arith, loop .inv .below, weight-most (loop .inv) (omega arith),
-    group-most (loop .inv) (omega arith) (c .before .before .before .wide .result) (omega arith))
+    omega (
+      arith,
+      loop .inv .below,
+      weight-most (loop .inv) (omega arith),
+      group-most (loop .inv) (omega arith) (c .before .before .before .wide .result) (omega arith),
+    )
 
 add-t16 : tie.Need-add-t16 Inv-loop μ-loop
 add-t16 c = search needs
@@ -72,16 +77,21 @@ returns-3 c =
 mul-value : tie.Need-mul-value Inv-loop μ-loop
 mul-value c =
     let loop = c .before .before .before .before .before .loop in
-    omega
-    (arith, weight-most (loop .inv) (omega arith),
-    group-most (loop .inv) (omega arith) (c .before .wide .result - 128) (omega (arith, c .before .wide .ensures)))
+    omega (
+      arith,
+      weight-most (loop .inv) (omega arith),
+      group-most (loop .inv) (omega arith) (c .before .wide .result - 128) (omega (arith, c .before .wide .ensures)),
+    )
 
 add-value : tie.Need-add-value Inv-loop μ-loop
 add-value c =
     let loop = c .before .before .before .before .before .loop in
-    omega
-    (arith, loop .inv .below, weight-most (loop .inv) (omega arith),
-    group-most (loop .inv) (omega arith) (c .before .wide .result - 128) (omega (arith, c .before .wide .ensures)))
+    omega (
+      arith,
+      loop .inv .below,
+      weight-most (loop .inv) (omega arith),
+      group-most (loop .inv) (omega arith) (c .before .wide .result - 128) (omega (arith, c .before .wide .ensures)),
+    )
 
 mul-weight : tie.Need-mul-weight Inv-loop μ-loop
 mul-weight c = omega (arith, weight-most (c .before .before .before .before .before .loop .inv) (omega arith))

@@ -43,9 +43,12 @@ cast-bytes c = search needs
 
 slice-write-bytes-2 : tie.Need-slice-write-bytes-2 Inv-loop μ-loop
 slice-write-bytes-2 c =
-    omega
-    (arith, c .before .loop .inv .same-length, c .before .before .before .pre .1,
-    stored-size (c .before .loop .inv) (omega arith))
+    omega (
+      arith,
+      c .before .loop .inv .same-length,
+      c .before .before .before .pre .1,
+      stored-size (c .before .loop .inv) (omega arith),
+    )
 
 add-result : tie.Need-add-result Inv-loop μ-loop
 add-result c = omega (arith, c .before .before .before .pre .1, stored-size (c .before .loop .inv) (omega arith))

@@ -37,9 +37,10 @@ cast-numbers : tie.Need-cast-numbers Inv-loop μ-loop
 cast-numbers c =
     let loop = c .before .before .before .before .before .loop in
     let read-number = c .before .before .before .read-number in
-    omega
-    (arith,
-    fill-next (loop .inv) (read-number .result) (omega arith) (read-number .ensures) (c .before .found .given .1) .small)
+    omega (
+      arith,
+      fill-next (loop .inv) (read-number .result) (omega arith) (read-number .ensures) (c .before .found .given .1) .small,
+    )
 
 mul-numbers : tie.Need-mul-numbers Inv-loop μ-loop
 mul-numbers c = search needs

@@ -23,10 +23,12 @@ enum-known-found-2 c = search needs
 add-t9 : tie.Need-add-t9
 add-t9 c =
     let start = c .before .before .before .before .before in
-    omega
-    (arith, start .pre,
-    ahead (now (start .args .bytes)) (start .args .at) _ _
-    (sym (c .before .before .before .read-number .ensures) ∙ ap item (c .before .found2 .given .1)))
+    omega (
+      arith,
+      start .pre,
+      ahead (now (start .args .bytes)) (start .args .at) _ _
+          (sym (c .before .before .before .read-number .ensures) ∙ ap item (c .before .found2 .given .1)),
+    )
 
 returns : tie.Need-returns
 returns c =

@@ -29,10 +29,15 @@ add-t10 c =
     let start = c .before .before .before .before .before .before in
     let list-number = c .before .before .before .before .list-number in
     let found2 = c .before .before .found2 in
-    omega
-    (arith, start .pre, start .good, c .number-size .ensures, encode-most number-bytes (found2 .given .0 .0),
-    listed-there (now (start .args .numbers)) (start .args .at)
-    (sym (ap item (found2 .given .1)) ∙ list-number .ensures))
+    omega (
+      arith,
+      start .pre,
+      start .good,
+      c .number-size .ensures,
+      encode-most number-bytes (found2 .given .0 .0),
+      listed-there (now (start .args .numbers)) (start .args .at)
+          (sym (ap item (found2 .given .1)) ∙ list-number .ensures),
+    )
 
 returns : tie.Need-returns
 returns c =

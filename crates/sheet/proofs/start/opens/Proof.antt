@@ -16,9 +16,10 @@ array-read-if1 c = search needs
 
 returns : tie.Need-returns
 returns c =
-    rw
-    (opening (now (c .before .before .args .bytes)) (c .before .before .pre),
-    ne-eqb (getD (now (c .before .before .args .bytes)) 0 0) (getD magic 0 0) (c .if1 .taken))
+    rw (
+      opening (now (c .before .before .args .bytes)) (c .before .before .pre),
+      ne-eqb (getD (now (c .before .before .args .bytes)) 0 0) (getD magic 0 0) (c .if1 .taken),
+    )
 
 shared-slice-read-if2 : tie.Need-shared-slice-read-if2
 shared-slice-read-if2 c = search needs
@@ -29,10 +30,11 @@ array-read-if2 c = search needs
 returns-2 : tie.Need-returns-2
 returns-2 c =
     let start = c .before .before .before .before in
-    rw
-    (opening (now (start .args .bytes)) (start .pre),
-    eq-eqb (getD (now (start .args .bytes)) 0 0) (getD magic 0 0) (c .before .before .if1 .left),
-    ne-eqb (getD (now (start .args .bytes)) 1 0) (getD magic 1 0) (c .if2 .taken))
+    rw (
+      opening (now (start .args .bytes)) (start .pre),
+      eq-eqb (getD (now (start .args .bytes)) 0 0) (getD magic 0 0) (c .before .before .if1 .left),
+      ne-eqb (getD (now (start .args .bytes)) 1 0) (getD magic 1 0) (c .if2 .taken),
+    )
 
 shared-slice-read-result : tie.Need-shared-slice-read-result
 shared-slice-read-result c = search needs
@@ -43,10 +45,11 @@ array-read-result c = search needs
 returns-3 : tie.Need-returns-3
 returns-3 c =
     let start = c .before .before .before .before .before in
-    rw
-    (opening (now (start .args .bytes)) (start .pre),
-    eq-eqb (getD (now (start .args .bytes)) 0 0) (getD magic 0 0) (c .before .before .before .if1 .left),
-    eq-eqb (getD (now (start .args .bytes)) 1 0) (getD magic 1 0) (c .before .if2 .left))
+    rw (
+      opening (now (start .args .bytes)) (start .pre),
+      eq-eqb (getD (now (start .args .bytes)) 0 0) (getD magic 0 0) (c .before .before .before .if1 .left),
+      eq-eqb (getD (now (start .args .bytes)) 1 0) (getD magic 1 0) (c .before .if2 .left),
+    )
 
 pub opens-spec : {M : Type 1} → statement M
 opens-spec =

@@ -96,10 +96,11 @@ layers-less c = omega arith
 
 layers-again : tie.Need-layers-again Inv-loop μ-loop Inv-layers μ-layers
 layers-again c =
-    let layers = c .before .before .before .before .before .before .before .before .layers in
-    (layer-next (layers .inv .0) (omega arith) (count (c .before .before .before .before .before))
-    (c .before .before .before .step .given .1) (c .before .loop .inv) (omega arith),
-    simp length-set (layers .inv .1))
+    let layers = c .before .before .before .before .before .before .before .before .layers in (
+      layer-next (layers .inv .0) (omega arith) (count (c .before .before .before .before .before))
+          (c .before .before .before .step .given .1) (c .before .loop .inv) (omega arith),
+      simp length-set (layers .inv .1),
+    )
 
 same-length : tie.Need-same-length Inv-loop μ-loop Inv-layers μ-layers
 same-length c = c .before .layers .inv .1

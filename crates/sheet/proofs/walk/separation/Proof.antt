@@ -20,7 +20,7 @@ unfolding separation
 returns c =
     record {
       reads = stops (c .before .before .limited .ensures .reads) (λ least. Grammar.number plain (maximum-rule least))
-      (c .enum-told .given .1);
+          (c .enum-told .given .1);
     }
 
 maximum-requires : tie.Need-maximum-requires
@@ -33,7 +33,7 @@ returns-2 c =
     let limited = c .before .before .before .before .limited in
     record {
       reads = then-reads (limited .ensures .reads) (λ least. Grammar.number plain (maximum-rule least))
-      (c .before .before .step .given .1) (c .maximum .ensures .reads);
+          (c .before .before .step .given .1) (c .maximum .ensures .reads);
     }
 
 pub separation-spec : {M : Type 1} → statement M

@@ -89,10 +89,11 @@ edges-requires c κs =
     let layers = c .before .before .before .before .before .before .before .before .before .layers in
     let limited3 = c .before .before .before .before .limited3 in
     let count =
-        limited-value (limited2 .ensures)
-        (c .before .before .before .before .before .before .before .before .before .before .before .before .count .given .1) .1 in
-    (limited-value (limited3 .ensures) (c .before .before .total .given .1) .0,
-    (count .0, omega (arith, count .1, layers .kept .1 .1 .1 .1 .0)))
+    limited-value (limited2 .ensures)
+    (c .before .before .before .before .before .before .before .before .before .before .before .before .count .given .1) .1 in (
+      limited-value (limited3 .ensures) (c .before .before .total .given .1) .0,
+      (count .0, omega (arith, count .1, layers .kept .1 .1 .1 .1 .0)),
+    )
 
 returns-5 : tie.Need-returns-5
 returns-5 c =
