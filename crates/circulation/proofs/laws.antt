@@ -1,5 +1,9 @@
+pub mod Amounts
+pub mod Augmented
 pub mod Bounds
+pub mod Charges
 pub mod Columns
+pub mod Counts
 pub mod Cuts
 pub mod Finishes
 pub mod Floods

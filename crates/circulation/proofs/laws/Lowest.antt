@@ -35,7 +35,7 @@ use lib.IntN.{ℤ, pos, _-ℤ_}
 use lib.Signed.{_≤ℤ_}
 use Rattle.circulation.proofs.laws.Meaning.{relative, limit-of, flows-by-index, potential-parts, follows, no-slacks}
 use Rattle.circulation.proofs.laws.Floods.{lowest}
-use Rattle.circulation.proofs.laws.Walks.{x-top}
+use Rattle.circulation.proofs.laws.Amounts.{x-top}
 
 -- flows and potentials relative to ground's fit each other, and are leftmost and least
 pub record Relative (N : Net) (n : ℕ) (x p : ℕ → ℕ) : Type 0 where

@@ -15,7 +15,7 @@ use lib.ListN.{length, set}
 use lib.Seq.{getD-set-other}
 use Rattle.circulation.specs.laws.Columns.{column-length}
 use Rattle.circulation.proofs.laws.Trees.{extends}
-use Rattle.circulation.proofs.laws.Walks.{augmented, less-left}
+use Rattle.circulation.proofs.laws.Augmented.{augmented, less-left}
 use Rattle.network.specs.Packed.{high-none}
 
 -- a high limit is at most 2^29

@@ -1,30 +1,23 @@
 -- The walk back from t to s: each arc on the way moves d. Only the ends' needs change, so what is counted at the node
 -- where the walk stands is d too much, and nowhere else.
-use Rattle.network.specs.laws.SumsTo.{at-set, sum-to-ge, sum-to-eq, sum-to-add}
+use Rattle.network.specs.laws.SumsTo.{at-set}
 use Rattle.network.specs.Net.{at, Net, arcs, tail, head, low, high, stands, asks}
 use Rattle.circulation.specs.inside.Slackness.{pick, flow, inflow, outflow, Slack}
 use Rattle.circulation.specs.Input.{WellFormed}
-use Rattle.circulation.specs.inside.Search.{surplus, Link, State, Reached, Amount, Pushable, Pushed, Walked}
-use mathlib.Core.Path.{_≡_, refl, sym, subst, ap, _∙_}
+use Rattle.circulation.specs.inside.Search.{surplus, Link, Reached, Amount, Pushable, Pushed, Walked}
+use mathlib.Core.Path.{_≡_, refl, subst, ap, _∙_}
 use mathlib.Core.Logic.{_⊎_, ⊎-elim}
 use mathlib.Core.List.{List}
-use Prim.Native.Nat.{ℕ, zero, suc, _+_, _-_, _≤_, _<_}
+use Prim.Native.Nat.{ℕ, _+_, _-_, _≤_, _<_}
 use native.Mathlib.Nat.{le-refl}
 use native.Mathlib.Decide.{ℕ-discrete}
 use native.Mathlib.Omega.{arith}
 use lib.ListN.{length, set, length-set}
 use lib.Seq.{getD-set-other}
-use Rattle.circulation.proofs.laws.Flows.{flow-set, sum-pick, pick-yes, pick-no}
+use Rattle.circulation.proofs.laws.Flows.{flow-set, pick-yes, pick-no}
 use Rattle.network.specs.Packed.{high-none}
 use Rattle.circulation.specs.Nodes.{need-zero}
-
--- flows are at most 2 ^ 29
-pub x-top : {N : Net} {n : ℕ} {p x : ℕ → ℕ} → WellFormed N n → Slack N p x → (i : ℕ) → i < arcs N → x i ≤ high-none
-x-top {N} {n} {p} {x} wf s i l = go (ℕ-discrete (high N i) high-none)
-  where
-    go : Dec (high N i ≡ high-none) → x i ≤ high-none
-    go (yes e) = omega (arith, s .within i l .1)
-    go (no ne) = omega (arith, s .within i l .1, wf .arc-in i l .high-in .soft ne)
+use Rattle.circulation.proofs.laws.Amounts.{x-top, amount-most}
 
 -- a sum, picked
 pick-add : (u v a b : ℕ) → pick u v (a + b) ≡ pick u v a + pick u v b
@@ -40,37 +33,6 @@ link-top {N} {p} {x} {order} {room} {w} {j} l = ⊎-elim
     (λ e. (omega (arith, ap order (e .0)), omega (arith, e .2)))
     (λ e. (omega (arith, e .2), omega (arith, ap order (e .0))))
     (l .ends)
-
--- no node has more room than the source
-module _ {N : Net} {s t : ℕ} {p x e order via room : List ℕ} (r : Reached N s t p x e order via room) where
-  -- the law for nodes of rank at most k
-  room-top : (k v : ℕ) → v < length p → 0 < at order v → at order v ≤ k → at room v ≤ at room s
-  room-top zero v l some few = absurd (omega arith)
-  room-top (suc k) v l some few = elim (ℕ-discrete v s) [
-    | yes same ↦ omega (arith, ap (at room) same)
-    | no ne ↦ step (r .tree .links v l some ne) (λ u u-in u-some less. room-top k u u-in u-some (omega arith))
-  ]
-    where
-      step : Link N (at p) (at x) (at order) (at room) v (at via v) → ((u : ℕ) → u < length p → 0 < at order u → at order u < at order v → at room u ≤ at room s) → at room v ≤ at room s
-      step k up = ⊎-elim
-          (λ c. omega (arith, c .4, up (head N (at via v)) (r .state .wf .arc-in (at via v) (k .arc-in) .head-in) (c .1) (c .2)))
-          (λ c. omega (arith, c .4, up (tail N (at via v)) (r .state .wf .arc-in (at via v) (k .arc-in) .tail-in) (c .1) (c .2)))
-          (k .ends)
-
-  -- the end has room
-  pub end-room : 0 < at room t
-  end-room = elim (ℕ-discrete t s) [
-    | yes same ↦ omega (arith, ap (at room) same, r .tree .root-room)
-    | no ne ↦ r .tree .links t (r .t-in) (r .t-reached) ne .some
-  ]
-
-  -- an amount is at most what is left to move
-  pub amount-most : (d : ℕ) → Amount s t d (at e) (at room) → (d + need-zero ≤ at e s) × (d ≤ surplus (length p) (at e))
-  amount-most d a =
-      let top = room-top (at order t) t (r .t-in) (r .t-reached) (le-refl _) in (
-        omega (arith, a .room-fits, r .root-fits, top),
-        omega (arith, a .room-fits, r .root-fits, top, sum-to-ge (length p) (λ y. at e y - need-zero) s (r .tree .s-in)),
-      )
 
 -- from t the walk has come to v; x₀ are the flows before it
 pub record Walking (N : Net) (s t d : ℕ) (p x₀ e order via room x : List ℕ) (v : ℕ) : Type 0 where
@@ -248,63 +210,3 @@ module _ {N : Net} {s t d : ℕ} {p x₀ e order via room : List ℕ} where
                   ))),
               low,
             )
-
--- the needs of the two ends are counted: the state is one again, and d less is left to move
-module _ {N : Net} {s t d : ℕ} {p x₀ x e order via room : List ℕ} (e′ : List ℕ) (r : Reached N s t p x₀ e order via room) (a : Amount s t d (at e) (at room))
-    (w : Walked N s t d p e x₀ x) (e-size : length e′ ≡ length e) (c : (v : ℕ) → at e′ v + pick s v d ≡ at e v + pick t v d) where
-  -- s needs as much
-  pub source-fits : d + need-zero ≤ at e s
-  source-fits = amount-most r d a .0
-
-  -- s is not t
-  not-t : s ≡ t → ⊥
-  not-t same = omega (arith, source-fits, r .deficit, ap (at e) same)
-
-  -- the need of s
-  at-s : at e′ s + d ≡ at e s
-  at-s = omega (arith, c s, pick-yes s s d refl, pick-no t s d (λ same. not-t (sym same)))
-
-  -- the need of t
-  at-t : at e′ t ≡ at e t + d
-  at-t = omega (arith, c t, pick-no s t d not-t, pick-yes t t d refl)
-
-  -- the need of any other
-  at-y : (y : ℕ) → (y ≡ s → ⊥) → (y ≡ t → ⊥) → at e′ y ≡ at e y
-  at-y y ne-s ne-t = omega (arith, c y, pick-no s y d (λ same. ne-s (sym same)), pick-no t y d (λ same. ne-t (sym same)))
-
-  -- the surplus of a node
-  less-at : (y : ℕ) → (at e′ y - need-zero) + pick s y d ≡ at e y - need-zero
-  less-at y = go (ℕ-discrete y s) (ℕ-discrete y t)
-    where
-      go : Dec (y ≡ s) → Dec (y ≡ t) → (at e′ y - need-zero) + pick s y d ≡ at e y - need-zero
-      go (yes is) z = omega (arith, ap (at e) is, ap (at e′) is, at-s, source-fits, pick-yes s y d (sym is))
-      go (no ne) (yes is) = omega (arith, ap (at e) is, ap (at e′) is, at-t, a .spare-fits, pick-no s y d (λ same. ne (sym same)))
-      go (no ne) (no nt) = omega (arith, at-y y ne nt, pick-no s y d (λ same. ne (sym same)))
-
-  -- d less is left to move
-  pub less-left : surplus (length p) (at e′) + d ≡ surplus (length p) (at e)
-  less-left = omega (
-    arith,
-    sum-to-add (length p) (λ y. at e′ y - need-zero) (λ y. pick s y d),
-    sum-pick (length p) s d (r .tree .s-in),
-    sum-to-eq (length p) (λ y. (at e′ y - need-zero) + pick s y d) (λ y. at e y - need-zero) (λ y l. less-at y),
-  )
-
-  -- the state is one again
-  pub augmented : State N p x e′
-  augmented = record {
-    wf = r .state .wf;
-    x-size = w .size-same ∙ r .state .x-size;
-    e-size = e-size ∙ r .state .e-size;
-    p-in = r .state .p-in;
-    calm = λ y l few. r .state .calm y l (spare y few (ℕ-discrete y s) (ℕ-discrete y t));
-    slack = w .slack;
-    needs-are = record { need = λ y l. omega (arith, w .moved y l, c y) };
-    spare-high = λ i l hard. omega (arith, less-left, r .state .spare-high i l hard, w .steps i .0);
-    spare-low = λ i l hard. omega (arith, less-left, r .state .spare-low i l hard, w .steps i .1);
-  }
-    where
-      spare : (y : ℕ) → at e′ y < need-zero → Dec (y ≡ s) → Dec (y ≡ t) → at e y < need-zero
-      spare y few (yes is) z = absurd (omega (arith, ap (at e′) is, at-s, source-fits))
-      spare y few (no ne) (yes is) = omega (arith, ap (at e) is, r .deficit)
-      spare y few (no ne) (no nt) = omega (arith, at-y y ne nt)

@@ -1,6 +1,6 @@
 -- `circulation::augment::augment` meets its contract: the walk moves the amount, and the charge counts it at the two ends.
 use Rattle.circulation.proofs.laws.Rooms.{augments}
-use Rattle.circulation.proofs.laws.Walks.{end-room, amount-most}
+use Rattle.circulation.proofs.laws.Amounts.{end-room, amount-most}
 use Rattle.circulation.specs.laws.Columns.{column-length}
 use native.Mathlib.Omega.{arith}
 use borrow.Author.Needs.{needs}

@@ -1,5 +1,5 @@
 -- `circulation::start::charge` meets its contract: two stores.
-use Rattle.circulation.proofs.laws.Starts.{charge-enough, charge-both}
+use Rattle.circulation.proofs.laws.Charges.{charge-enough, charge-both}
 use Rattle.circulation.specs.laws.Columns.{column-at}
 use Prim.Native.Nat.{ℕ, _+_, _-_, _*_}
 use mathlib.Core.Path.{ap}
