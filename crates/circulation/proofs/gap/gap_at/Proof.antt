@@ -2,7 +2,7 @@
 use Rattle.network.specs.Net.{net, at}
 use Rattle.circulation.specs.Nodes.{potentials, ranks}
 use Rattle.circulation.proofs.laws.Gaps.{both-in, both-out, gap-enter, gap-leave}
-use Rattle.circulation.specs.laws.Columns.{column-length}
+use Rattle.circulation.proofs.laws.Columns.{node-there}
 use lib.ListN.{length}
 use mathlib.Core.Path.{ap}
 use native.Mathlib.Omega.{arith}
@@ -21,21 +21,9 @@ head-of-requires c κs =
 
 get-requires : tie.Need-get-requires
 get-requires c κs =
-    let start = c .before .before .before .before .before in (
-      omega (
-        arith,
-        c .head-of .ensures,
-        start .pre .0 .wf .arc-in (start .args .i) (start .pre .1) .head-in,
-        column-length 0 (start .args .nodes .now),
-      ),
-      omega (
-        arith,
-        c .head-of .ensures,
-        start .pre .0 .wf .arc-in (start .args .i) (start .pre .1) .head-in,
-        start .pre .0 .wf .nodes,
-      ),
-      omega arith,
-    )
+    let start = c .before .before .before .before .before in
+    node-there (start .args .nodes .now) (c .head-of .ensures)
+    (start .pre .0 .wf .arc-in (start .args .i) (start .pre .1) .head-in) (start .pre .0 .wf .nodes) (omega arith)
 
 add-stands : tie.Need-add-stands
 add-stands c =
@@ -45,21 +33,9 @@ add-stands c =
 get-requires-2 : tie.Need-get-requires-2
 get-requires-2 c κs =
     let start = c .before .before .before .before .before .before in
-    let tail-of = c .before .before .tail-of in (
-      omega (
-        arith,
-        tail-of .ensures,
-        start .pre .0 .wf .arc-in (start .args .i) (start .pre .1) .tail-in,
-        column-length 0 (start .args .nodes .now),
-      ),
-      omega (
-        arith,
-        tail-of .ensures,
-        start .pre .0 .wf .arc-in (start .args .i) (start .pre .1) .tail-in,
-        start .pre .0 .wf .nodes,
-      ),
-      omega arith,
-    )
+    let tail-of = c .before .before .tail-of in
+    node-there (start .args .nodes .now) (tail-of .ensures)
+    (start .pre .0 .wf .arc-in (start .args .i) (start .pre .1) .tail-in) (start .pre .0 .wf .nodes) (omega arith)
 
 kink-of-requires : tie.Need-kink-of-requires
 kink-of-requires c κs =
@@ -88,40 +64,16 @@ flow-of-requires c κs =
 get-requires-3 : tie.Need-get-requires-3
 get-requires-3 c κs =
     let start = c .before .before .before .before .before .before .before .before .before in
-    let tail-of = c .before .before .before .before .before .tail-of in (
-      omega (
-        arith,
-        tail-of .ensures,
-        start .pre .0 .wf .arc-in (start .args .i) (start .pre .1) .tail-in,
-        column-length 0 (start .args .nodes .now),
-      ),
-      omega (
-        arith,
-        tail-of .ensures,
-        start .pre .0 .wf .arc-in (start .args .i) (start .pre .1) .tail-in,
-        start .pre .0 .wf .nodes,
-      ),
-      omega arith,
-    )
+    let tail-of = c .before .before .before .before .before .tail-of in
+    node-there (start .args .nodes .now) (tail-of .ensures)
+    (start .pre .0 .wf .arc-in (start .args .i) (start .pre .1) .tail-in) (start .pre .0 .wf .nodes) (omega arith)
 
 get-requires-4 : tie.Need-get-requires-4
 get-requires-4 c κs =
     let start = c .before .before .before .before .before .before .before .before .before .before in
-    let head-of = c .before .before .before .before .before .head-of in (
-      omega (
-        arith,
-        head-of .ensures,
-        start .pre .0 .wf .arc-in (start .args .i) (start .pre .1) .head-in,
-        column-length 0 (start .args .nodes .now),
-      ),
-      omega (
-        arith,
-        head-of .ensures,
-        start .pre .0 .wf .arc-in (start .args .i) (start .pre .1) .head-in,
-        start .pre .0 .wf .nodes,
-      ),
-      omega arith,
-    )
+    let head-of = c .before .before .before .before .before .head-of in
+    node-there (start .args .nodes .now) (head-of .ensures)
+    (start .pre .0 .wf .arc-in (start .args .i) (start .pre .1) .head-in) (start .pre .0 .wf .nodes) (omega arith)
 
 returns : tie.Need-returns
 returns c =
