@@ -49,10 +49,14 @@ pub adding-next : {p s : List ℕ} {left at sum r : ℕ} → Adding p s left at 
 adding-next {p} {s} {left} {at} {sum} {r} a h e = record {
   inside = omega (arith, a .inside);
   small = omega arith;
-  whole = capped sum (length-at p (drop at s)) (lengths (left - 1) p (drop (at + stride) s)) (lengths left p (drop at s)) r e (lengths-next p s left at h) ∙ a .whole;
+  whole =
+      capped sum (length-at p (drop at s)) (lengths (left - 1) p (drop (at + stride) s)) (lengths left p (drop at s)) r
+      e (lengths-next p s left at h)
+      ∙ a .whole;
 }
   where
-    capped : (sum x rest all r : ℕ) → r ≡ min u32-most (sum + x) → all ≡ x + rest → min u32-most (r + rest) ≡ min u32-most (sum + all)
+    capped : (sum x rest all r : ℕ) → r ≡ min u32-most (sum + x) → all ≡ x + rest
+        → min u32-most (r + rest) ≡ min u32-most (sum + all)
     capped sum x rest all r e f = omega arith
 
 -- none is left

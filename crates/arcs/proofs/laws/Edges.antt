@@ -52,7 +52,8 @@ module _ {n : ℕ} {first : List ℕ} (at : ℕ) (s : List ℕ) (g : GoodEdge n 
     ends-few = (rw (e5, layer-is, above-is) (g .upper), rw (e6, layer-is, below-is) (g .lower))
 
     -- the arc between them is the edge's
-    pub edge-adds : {a b x : List ℕ} {i m : ℕ} → x ≡ packs (edge-arc-between kind upper lower ∷ []) → Adds a i x b m → Adds a i (packs (edge-arc (edge-of first (drop at s)) ∷ [])) b m
+    pub edge-adds : {a b x : List ℕ} {i m : ℕ} → x ≡ packs (edge-arc-between kind upper lower ∷ []) → Adds a i x b m
+        → Adds a i (packs (edge-arc (edge-of first (drop at s)) ∷ [])) b m
     edge-adds e7 x = rw (e7, e5, e6, layer-is, above-is, below-is, kind-is) at x
 
 -- the first of some edges, and the others
@@ -68,7 +69,8 @@ first-good n first zero s h g = absurd (omega arith)
 first-good n first (suc k) s h g = g .0
 
 -- the others
-rest-good : (n : ℕ) (first : List ℕ) (k at : ℕ) (s : List ℕ) → 0 < k → GoodEdges n first k (drop at s) → GoodEdges n first (k - 1) (drop (at + edge-stride) s)
+rest-good : (n : ℕ) (first : List ℕ) (k at : ℕ) (s : List ℕ) → 0 < k → GoodEdges n first k (drop at s)
+    → GoodEdges n first (k - 1) (drop (at + edge-stride) s)
 rest-good n first zero at s h g = absurd (omega arith)
 rest-good n first (suc k) at s h g = rw (less-one k) (rw (drop-drop edge-stride at s) at (g .1))
 
@@ -80,8 +82,10 @@ pub record EdgesLeft (s first : List ℕ) (start count n : ℕ) (old new : List 
   pub left : Filling old n (packs (map edge-arc (edges-of first count (drop start s)))) new m (packs (map edge-arc (edges-of first todo (drop at s))))
 
 -- the next edge is good
-pub edge-good : {s first old new : List ℕ} {start count n todo at m : ℕ} → EdgesLeft s first start count n old new todo at m → 0 < todo → GoodEdge max-nodes first (drop at s)
-edge-good {s} {first} {old} {new} {start} {count} {n} {todo} {at} {m} p h = first-good max-nodes first todo (drop at s) h (p .good)
+pub edge-good : {s first old new : List ℕ} {start count n todo at m : ℕ}
+    → EdgesLeft s first start count n old new todo at m → 0 < todo → GoodEdge max-nodes first (drop at s)
+edge-good {s} {first} {old} {new} {start} {count} {n} {todo} {at} {m} p h =
+    first-good max-nodes first todo (drop at s) h (p .good)
 
 -- one edge more
 pub edges-step : {s first old new newer : List ℕ} {start count n todo at m l : ℕ} → EdgesLeft s first start count n old new todo at m → 0 < todo
@@ -92,7 +96,9 @@ edges-step {s} {first} {old} {new} {newer} {start} {count} {n} {todo} {at} {m} {
       inside = omega (arith, p .inside);
       room = omega (arith, p .room, a .count, packs-length edge);
       good = rest-good max-nodes first todo at s h (p .good);
-      left = filling-arcs edge (map edge-arc (edges-of first (todo - 1) (drop (at + edge-stride) s))) (rw (edges-next first todo at s h) at (p .left)) a;
+      left =
+          filling-arcs edge (map edge-arc (edges-of first (todo - 1) (drop (at + edge-stride) s)))
+          (rw (edges-next first todo at s h) at (p .left)) a;
     }
 
 -- no edge is left

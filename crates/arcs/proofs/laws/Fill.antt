@@ -54,7 +54,10 @@ module _ {s first : List ℕ} {p : Plan} (g : Good max-nodes s) (planned : Plann
 
   -- the last of them is the count of nodes, which is the ground
   ground-is : p .nodes ≡ getD (first-nodes (p .layers) 0 (drop first-layer-at s)) (p .layers) 0
-  ground-is = planned .nodes ∙ sym (getD-take (p .layers + 1) first (p .layers) 0 (omega arith)) ∙ ap (λ (l : List ℕ). getD l (p .layers) 0) (planned .firsts)
+  ground-is =
+      planned .nodes
+      ∙ sym (getD-take (p .layers + 1) first (p .layers) 0 (omega arith))
+      ∙ ap (λ (l : List ℕ). getD l (p .layers) 0) (planned .firsts)
 
   -- the layers are good
   pub layers-good : GoodLayers max-nodes (p .layers) 0 (drop first-layer-at s)
@@ -70,7 +73,9 @@ module _ {s first : List ℕ} {p : Plan} (g : Good max-nodes s) (planned : Plann
 
   -- an arc for each edge
   edges-count : length edge-arcs ≡ p .edges
-  edges-count = length-map (edges-of firsts (p .edges) (drop (p .behind + edges-at) s)) edge-arc ∙ edges-length firsts (p .edges) (drop (p .behind + edges-at) s)
+  edges-count =
+      length-map (edges-of firsts (p .edges) (drop (p .behind + edges-at) s)) edge-arc
+      ∙ edges-length firsts (p .edges) (drop (p .behind + edges-at) s)
 
   -- the edges are the sheet's
   edges-are : edges-of firsts (p .edges) (drop (p .behind + edges-at) s) ≡ sheet-of s .edges
@@ -98,7 +103,10 @@ module _ {s first : List ℕ} {p : Plan} (g : Good max-nodes s) (planned : Plann
 
   -- one arc for each edge, and two for each node
   pub plan-arcs : (w : ℕ) → length (network (at-width w (sheet-of s)) .arcs) ≡ p .edges + 2 * p .nodes
-  plan-arcs w = ap length (arcs-are w) ∙ length-append edge-arcs (layers-arcs s (p .layers) w (p .nodes)) ∙ omega (arith, edges-count, layers-room w)
+  plan-arcs w =
+      ap length (arcs-are w)
+      ∙ length-append edge-arcs (layers-arcs s (p .layers) w (p .nodes))
+      ∙ omega (arith, edges-count, layers-room w)
 
   -- where the arcs of the edges end
   pub edges-end : {a b : List ℕ} {n m : ℕ} → Adds a n (packs edge-arcs) b m → m ≡ n + stride * p .edges

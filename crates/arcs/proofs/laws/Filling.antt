@@ -28,12 +28,16 @@ filling-add {old} {whole} {new} {newer} {n} {m} {l} some rest p a =
     record {
       size = a .size ∙ p .size;
       count = omega (arith, p .count, a .count, length-append some rest);
-      front = ap (λ (x : List ℕ). x ++ rest) (sym (append-nil (take l newer)) ∙ a .front) ∙ append-assoc (take m new) some rest ∙ p .front;
+      front =
+          ap (λ (x : List ℕ). x ++ rest) (sym (append-nil (take l newer)) ∙ a .front)
+          ∙ append-assoc (take m new) some rest
+          ∙ p .front;
       behind = a .behind ∙ drop-more m l new old (omega (arith, a .count)) (p .behind);
     }
 
 -- all that is left is written
-pub filling-end : {old whole new newer : List ℕ} {n m l : ℕ} (some : List ℕ) → Filling old n whole new m some → Adds new m some newer l → Adds old n whole newer l
+pub filling-end : {old whole new newer : List ℕ} {n m l : ℕ} (some : List ℕ) → Filling old n whole new m some
+    → Adds new m some newer l → Adds old n whole newer l
 filling-end some p a = filling-add some [] (rw (append-nil some) p) a
 
 -- some of the arcs that are left are written

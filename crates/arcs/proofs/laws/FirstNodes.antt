@@ -24,7 +24,8 @@ pub record FirstsLeft (s : List ℕ) (layers : ℕ) (old new : List ℕ) (todo i
   pub rest : behind-layers todo (drop at s) ≡ behind-layers layers (drop first-layer-at s)
 
 -- no layer is passed yet
-pub firsts-begin : {s old : List ℕ} {layers : ℕ} → LayersAt max-nodes layers 0 first-layer-at s → FirstsLeft s layers old old layers 0 first-layer-at 0
+pub firsts-begin : {s old : List ℕ} {layers : ℕ} → LayersAt max-nodes layers 0 first-layer-at s
+    → FirstsLeft s layers old old layers 0 first-layer-at 0
 firsts-begin here = record { size = refl; turns = omega arith; here = here; firsts = refl; rest = refl }
 
 -- the first node of the first layer, and of the others
@@ -51,12 +52,15 @@ firsts-step {s} {old} {new} {layers} {todo} {i} {at} {v} {count} {size} p h e f 
       size = simp length-set (p .size);
       turns = omega (arith, p .turns);
       here = layers-next (p .here) h e f;
-      firsts = more new i v (first-nodes (todo - 1) (v + count) (drop (at + size) s)) l ∙ rw (first-nodes-next todo v at s h (e .is) f) at (p .firsts);
+      firsts =
+          more new i v (first-nodes (todo - 1) (v + count) (drop (at + size) s)) l
+          ∙ rw (first-nodes-next todo v at s h (e .is) f) at (p .firsts);
       rest = sym (behind-next todo at s h (e .is) f) ∙ p .rest;
     }
 
 -- no layer is left
-pub firsts-end : {s old new : List ℕ} {layers todo i at v : ℕ} → FirstsLeft s layers old new todo i at v → todo ≡ 0 → i < length new → FirstNodes s layers old (set new i v) at
+pub firsts-end : {s old new : List ℕ} {layers todo i at v : ℕ} → FirstsLeft s layers old new todo i at v → todo ≡ 0
+    → i < length new → FirstNodes s layers old (set new i v) at
 firsts-end {s} {old} {new} {layers} {todo} {i} {at} {v} p e l =
     let n : i ≡ layers = omega (arith, p .turns) in
     record {

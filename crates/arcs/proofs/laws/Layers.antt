@@ -27,7 +27,9 @@ use Rattle.arcs.proofs.laws.Pairs.{pairs-length}
 
 module _ {n v : ℕ} (at : ℕ) (s : List ℕ) (g : GoodLayer n v (drop at s)) {count : ℕ} (e : Small count (getD s at 0)) where
   -- where the arcs of its pairs end
-  pub pairs-size : {a b : List ℕ} {i m : ℕ} → Adds a i (packs (flatMap separation-arcs (pairs-of (count - 1) v (drop (at + separations-at) s)))) b m → m ≡ i + 2 * stride * (count - 1)
+  pub pairs-size : {a b : List ℕ} {i m : ℕ}
+      → Adds a i (packs (flatMap separation-arcs (pairs-of (count - 1) v (drop (at + separations-at) s)))) b m
+      → m ≡ i + 2 * stride * (count - 1)
   pairs-size x =
       let t : List ℕ = drop (at + separations-at) s in
       omega (arith, x .count, packs-length (flatMap separation-arcs (pairs-of (count - 1) v t)), pairs-length (count - 1) v t)
@@ -63,7 +65,8 @@ layers-first zero v at s width ground h e f = absurd (omega arith)
 layers-first (suc k) v at s width ground h e f = rw (less-one k, ← next-at at s e f, e, number-here at s)
 
 -- a layer of c nodes has 2 · c arcs
-layer-size-is : {n v : ℕ} {s : List ℕ} (width ground : ℕ) → GoodLayer n v s → length (layer-arcs width ground (layer-at v s)) ≡ 2 * getD s nodes-at 0
+layer-size-is : {n v : ℕ} {s : List ℕ} (width ground : ℕ) → GoodLayer n v s
+    → length (layer-arcs width ground (layer-at v s)) ≡ 2 * getD s nodes-at 0
 layer-size-is {n} {v} {s} width ground g =
     omega (arith, layer-length width ground (layer-at v s), length-pairs (getD s nodes-at 0 - 1) v (drop separations-at s), g .some)
 
@@ -73,7 +76,8 @@ pub record LayersLeft (s : List ℕ) (layers width ground n : ℕ) (old new : Li
   pub left : Filling old n (packs (layers-arcs s layers width ground)) new m (packs (flatMap (layer-arcs width ground) (layers-of todo v (drop at s))))
 
 -- no layer is written yet
-pub layers-begin : {s old : List ℕ} {layers width ground n : ℕ} → LayersAt max-nodes layers 0 first-layer-at s → LayersLeft s layers width ground n old old layers first-layer-at 0 n
+pub layers-begin : {s old : List ℕ} {layers width ground n : ℕ} → LayersAt max-nodes layers 0 first-layer-at s
+    → LayersLeft s layers width ground n old old layers first-layer-at 0 n
 layers-begin here = record { here = here; left = filling-begin _ _ _ }
 
 module _ {s old new : List ℕ} {layers width ground n todo at v m : ℕ} (p : LayersLeft s layers width ground n old new todo at v m) (h : 0 < todo) where
@@ -99,7 +103,9 @@ module _ {s old new : List ℕ} {layers width ground n todo at v m : ℕ} (p : L
       let others : List Arc = flatMap (layer-arcs width ground) (layers-of (todo - 1) (v + count) (drop (at + size) s)) in
       record {
         here = layers-next (p .here) h e f;
-        left = filling-arcs (layer-arcs width ground (layer-at v (drop at s))) others (rw (layers-first todo v at s width ground h (e .is) f) at (p .left)) a;
+        left =
+            filling-arcs (layer-arcs width ground (layer-at v (drop at s))) others
+            (rw (layers-first todo v at s width ground h (e .is) f) at (p .left)) a;
       }
 
 -- no layer is left

@@ -25,7 +25,8 @@ module _ {n v : ℕ} (at : ℕ) (s : List ℕ) (g : GoodLayer n v (drop at s)) w
     layer-there = omega (arith, g .there, count-there, length-drop at s, e .is, number-here at s)
 
 -- what follows the layer at an index
-pub next-at : (at : ℕ) {count size : ℕ} (s : List ℕ) → count ≡ getD s at 0 → size ≡ layer-size count → next-layer (drop at s) ≡ drop (at + size) s
+pub next-at : (at : ℕ) {count size : ℕ} (s : List ℕ) → count ≡ getD s at 0 → size ≡ layer-size count
+    → next-layer (drop at s) ≡ drop (at + size) s
 next-at at {count} {size} s e f =
     let is-size : layer-size (getD (drop at s) nodes-at 0) ≡ size = sym (f ∙ ap layer-size (e ∙ number-here at s)) in
     drop-drop (layer-size (getD (drop at s) nodes-at 0)) at s ∙ ap (λ (k : ℕ). drop (at + k) s) is-size
@@ -42,7 +43,8 @@ first-good n zero v s h g = absurd (omega arith)
 first-good n (suc k) v s h g = g .0
 
 -- the others
-rest-good : (n k v at : ℕ) {count size : ℕ} (s : List ℕ) → 0 < k → count ≡ getD s at 0 → size ≡ layer-size count → GoodLayers n k v (drop at s) → GoodLayers n (k - 1) (v + count) (drop (at + size) s)
+rest-good : (n k v at : ℕ) {count size : ℕ} (s : List ℕ) → 0 < k → count ≡ getD s at 0 → size ≡ layer-size count
+    → GoodLayers n k v (drop at s) → GoodLayers n (k - 1) (v + count) (drop (at + size) s)
 rest-good n zero v at s h e f g = absurd (omega arith)
 rest-good n (suc k) v at s h e f g = rw (less-one k, ← next-at at s e f, e, number-here at s) (g .1)
 

@@ -69,7 +69,9 @@ module _ {s first : List ℕ} {p : Plan} (g : Good max-nodes s) (planned : Plann
         f ∙ ap (λ (w : ℕ). written (network (at-width w (sheet-of s))) a) (sym width-is) ∙ sym (long-slice s a (omega (arith, size-is)))
 
 -- where every result has room, a refusal is the result's
-answered-refused : (room : ℕ) (result : Result) {r : Refusal} → ((es : List ℕ) → result ≡ elements es → length es ≤ room) → answered room result ≡ Outcome.refused r → result ≡ Result.refused r
+answered-refused : (room : ℕ) (result : Result) {r : Refusal}
+    → ((es : List ℕ) → result ≡ elements es → length es ≤ room) → answered room result ≡ Outcome.refused r
+    → result ≡ Result.refused r
 unfolding answered
 answered-refused room (elements es) {r} fits e =
     let f : Outcome.wrote (length es) ≡ Outcome.refused r = rw (le-ltb room (length es) (fits es refl)) at e in
@@ -109,11 +111,13 @@ module _ {answer : Answer} (bytes old new : List ℕ) (e : outcome answer ≡ an
         accepts-good max-nodes (good-layout (take (count - 0) new) a .nodes) a
 
     -- the answer for them is the answer for the bytes
-    pub done-answer : (room : ℕ) {r : Loading} → r ≡ load-answer room (elements (take (count - 0) new)) → r ≡ load-answer room (reading magic sheet bytes)
+    pub done-answer : (room : ℕ) {r : Loading} → r ≡ load-answer room (elements (take (count - 0) new))
+        → r ≡ load-answer room (reading magic sheet bytes)
     done-answer room k = k ∙ ap (load-answer room) (sym reading-is)
 
     -- the slice for them is the slice for the bytes
-    pub done-slice : (a : List ℕ) {b : List ℕ} → b ≡ load-slice (elements (take (count - 0) new)) a → b ≡ load-slice (reading magic sheet bytes) a
+    pub done-slice : (a : List ℕ) {b : List ℕ} → b ≡ load-slice (elements (take (count - 0) new)) a
+        → b ≡ load-slice (reading magic sheet bytes) a
     done-slice a k = k ∙ ap (λ (result : Result). load-slice result a) (sym reading-is)
 
   module _ (room : max-numbers ≤ length old) {r : Refusal} (is : answer ≡ Refused r) where

@@ -31,7 +31,8 @@ arc-adds a n t h k l u room =
     filling-store (n + high-at) (n + stride) u [] (omega arith) (omega arith) p4
 
 -- an arc that keeps its head from standing further right of its tail than k
-pub upper-bound-packs : (t h k : ℕ) (z : ℤ) → k ≡ raised kink-zero z → t ∷ h ∷ k ∷ flow-zero ∷ high-none ∷ [] ≡ packs (upper-bound t h z ∷ [])
+pub upper-bound-packs : (t h k : ℕ) (z : ℤ) → k ≡ raised kink-zero z
+    → t ∷ h ∷ k ∷ flow-zero ∷ high-none ∷ [] ≡ packs (upper-bound t h z ∷ [])
 unfolding packs
 upper-bound-packs t h k z e = rw e
 
@@ -41,25 +42,29 @@ minimum-kink zero = refl
 minimum-kink (suc n) = refl
 
 -- a maximum separation that is none
-pub maximum-none : (maximum v : ℕ) → maximum ≡ 0 → v ∷ (v + 1) ∷ kink-zero ∷ flow-zero ∷ flow-zero ∷ [] ≡ packs (maximum-arc maximum v ∷ [])
+pub maximum-none : (maximum v : ℕ) → maximum ≡ 0
+    → v ∷ (v + 1) ∷ kink-zero ∷ flow-zero ∷ flow-zero ∷ [] ≡ packs (maximum-arc maximum v ∷ [])
 unfolding packs
 maximum-none zero v e = rw add-one
 maximum-none (suc maximum) v e = absurd (omega arith)
 
 -- a maximum separation that is set
-pub maximum-some : (maximum v : ℕ) → (maximum ≡ 0 → ⊥) → v ∷ (v + 1) ∷ (kink-zero + maximum) ∷ flow-zero ∷ high-none ∷ [] ≡ packs (maximum-arc maximum v ∷ [])
+pub maximum-some : (maximum v : ℕ) → (maximum ≡ 0 → ⊥)
+    → v ∷ (v + 1) ∷ (kink-zero + maximum) ∷ flow-zero ∷ high-none ∷ [] ≡ packs (maximum-arc maximum v ∷ [])
 unfolding packs
 maximum-some zero v e = absurd (e refl)
 maximum-some (suc maximum) v e = rw add-one
 
 -- a plain edge
-pub edge-plain : (kind u v : ℕ) → kind ≡ 0 → u ∷ v ∷ kink-zero ∷ (flow-zero - 1) ∷ (flow-zero + 1) ∷ [] ≡ packs (edge-arc-between kind u v ∷ [])
+pub edge-plain : (kind u v : ℕ) → kind ≡ 0
+    → u ∷ v ∷ kink-zero ∷ (flow-zero - 1) ∷ (flow-zero + 1) ∷ [] ≡ packs (edge-arc-between kind u v ∷ [])
 unfolding packs
 edge-plain zero u v e = refl
 edge-plain (suc kind) u v e = absurd (omega arith)
 
 -- a straight edge
-pub edge-straight : (kind u v : ℕ) → (kind ≡ 0 → ⊥) → u ∷ v ∷ kink-zero ∷ low-none ∷ high-none ∷ [] ≡ packs (edge-arc-between kind u v ∷ [])
+pub edge-straight : (kind u v : ℕ) → (kind ≡ 0 → ⊥)
+    → u ∷ v ∷ kink-zero ∷ low-none ∷ high-none ∷ [] ≡ packs (edge-arc-between kind u v ∷ [])
 unfolding packs
 edge-straight zero u v e = absurd (e refl)
 edge-straight (suc kind) u v e = refl

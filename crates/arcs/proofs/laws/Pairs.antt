@@ -61,7 +61,9 @@ pairs-step {s} {old} {new} {newer} {start} {count} {first} {n} {todo} {at} {v} {
     record {
       inside = (omega (arith, p .inside .0), omega (arith, p .inside .1));
       room = omega (arith, p .room, a .count, packs-length pair);
-      left = filling-arcs pair (flatMap separation-arcs (pairs-of (todo - 1) (v + 1) (drop (at + separation-stride) s))) (rw (pairs-next todo v at s h) at (p .left)) a;
+      left =
+          filling-arcs pair (flatMap separation-arcs (pairs-of (todo - 1) (v + 1) (drop (at + separation-stride) s)))
+          (rw (pairs-next todo v at s h) at (p .left)) a;
     }
 
 -- no pair is left

@@ -18,7 +18,8 @@ counts-of S = Loading.loaded (S .nodes) (length (S .edges)) (length (network S .
 
 module _ (numbers : List ℕ) where
   -- too short: refusal 7
-  pub short-answer : (room : ℕ) → room < arcs-size (sheet-of numbers) → load-answer room (elements numbers) ≡ Loading.refused (refusal slice-short 0)
+  pub short-answer : (room : ℕ) → room < arcs-size (sheet-of numbers)
+      → load-answer room (elements numbers) ≡ Loading.refused (refusal slice-short 0)
   unfolding load-answer fitted
   short-answer room h = rw (lt-ltb room (arcs-size (sheet-of numbers)) h)
 
@@ -28,11 +29,13 @@ module _ (numbers : List ℕ) where
   short-slice old h = rw (lt-ltb (length old) (arcs-size (sheet-of numbers)) h)
 
   -- long enough: the counts of the sheet
-  pub long-answer : (room : ℕ) → arcs-size (sheet-of numbers) ≤ room → load-answer room (elements numbers) ≡ counts-of (sheet-of numbers)
+  pub long-answer : (room : ℕ) → arcs-size (sheet-of numbers) ≤ room
+      → load-answer room (elements numbers) ≡ counts-of (sheet-of numbers)
   unfolding load-answer fitted
   long-answer room h = rw (le-ltb room (arcs-size (sheet-of numbers)) h)
 
   -- long enough: the packed arcs stand in front of the old elements
-  pub long-slice : (old : List ℕ) → arcs-size (sheet-of numbers) ≤ length old → load-slice (elements numbers) old ≡ packs (network (sheet-of numbers) .arcs) ++ drop (arcs-size (sheet-of numbers)) old
+  pub long-slice : (old : List ℕ) → arcs-size (sheet-of numbers) ≤ length old
+      → load-slice (elements numbers) old ≡ packs (network (sheet-of numbers) .arcs) ++ drop (arcs-size (sheet-of numbers)) old
   unfolding load-slice packed
   long-slice old h = rw (le-ltb (length old) (arcs-size (sheet-of numbers)) h)

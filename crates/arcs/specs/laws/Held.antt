@@ -51,7 +51,8 @@ loaded-holds {bytes} {old} l = record {
 }
 
 -- the numbers are those that reading gives
-pub holds-reads : {bytes old new : List ℕ} {c : Counts} (l : LoadedSheet bytes old new c) → reading magic sheet bytes ≡ elements (loaded-holds l .numbers)
+pub holds-reads : {bytes old new : List ℕ} {c : Counts} (l : LoadedSheet bytes old new c)
+    → reading magic sheet bytes ≡ elements (loaded-holds l .numbers)
 unfolding loaded-holds
 holds-reads l = l .reads
 
@@ -70,7 +71,10 @@ module _ {a : List ℕ} {c : Counts} (h : Holds a c) where
 
   -- an arc for each number of the certificate
   pub size-is : c .arcs ≡ certificate-size S
-  size-is = h .arcs-are ∙ arcs-count (node-count (h .numbers)) (h .numbers) (accepts-good (node-count (h .numbers)) (omega arith) (h .good))
+  size-is =
+      h .arcs-are
+      ∙ arcs-count (node-count (h .numbers)) (h .numbers)
+      (accepts-good (node-count (h .numbers)) (omega arith) (h .good))
 
   -- few nodes
   pub nodes-few : c .nodes ≤ max-nodes

@@ -44,7 +44,8 @@ refused-not : {r : Refusal} {nodes edges arcs width : ℕ} → Loading.refused r
 refused-not e = let z : _≡_ {A = ℕ} 0 1 = cc in omega arith
 
 -- what an answer with a sheet stands for
-sheet-answer : {answer : Loaded} {c : Counts} {l : Loading} → answer ≡ Sheet c → loading answer ≡ l → Loading.loaded (c .nodes) (c .edges) (c .arcs) (c .width) ≡ l
+sheet-answer : {answer : Loaded} {c : Counts} {l : Loading} → answer ≡ Sheet c → loading answer ≡ l
+    → Loading.loaded (c .nodes) (c .edges) (c .arcs) (c .width) ≡ l
 unfolding loading
 sheet-answer is e = sym (ap loading is) ∙ e
 
@@ -59,7 +60,9 @@ pub loaded-sheet : (bytes old : List ℕ) {new : List ℕ} {answer : Loaded} {c 
 unfolding load-answer
 loaded-sheet bytes old {new} {answer} {c} is e f = go (reading magic sheet bytes) refl (sheet-answer is e) f
   where
-    go : (result : Result) → reading magic sheet bytes ≡ result → Loading.loaded (c .nodes) (c .edges) (c .arcs) (c .width) ≡ load-answer (length old) result → new ≡ load-slice result old → LoadedSheet bytes old new c
+    go : (result : Result) → reading magic sheet bytes ≡ result
+        → Loading.loaded (c .nodes) (c .edges) (c .arcs) (c .width) ≡ load-answer (length old) result
+        → new ≡ load-slice result old → LoadedSheet bytes old new c
     go (elements numbers) i e f =
         ⊎-elim
         (λ (h : length old < arcs-size (sheet-of numbers)). absurd (refused-not (sym (short-answer numbers (length old) h) ∙ sym e)))
@@ -91,12 +94,17 @@ pub reader-refused : (bytes : List ℕ) (room : ℕ) {answer : Loaded} {r : Refu
 unfolding load-answer
 reader-refused bytes room {answer} {r} h is e = go (reading magic sheet bytes) refl (refused-answer is e)
   where
-    go : (result : Result) → reading magic sheet bytes ≡ result → Loading.refused r ≡ load-answer room result → result ≡ Result.refused r
-    go (elements numbers) i e = absurd (refused-not (e ∙ long-answer numbers room (omega (arith, most-elements numbers (read-accepted bytes numbers i)))))
+    go : (result : Result) → reading magic sheet bytes ≡ result → Loading.refused r ≡ load-answer room result
+        → result ≡ Result.refused r
+    go (elements numbers) i e =
+        absurd
+        (refused-not
+        (e ∙ long-answer numbers room (omega (arith, most-elements numbers (read-accepted bytes numbers i)))))
     go (Result.refused s) i e = let are : s ≡ r = cc in ap Result.refused are
 
 -- a refusal leaves the slice as it was
-pub refused-kept : (result : Result) (old : List ℕ) {answer : Loaded} {r : Refusal} → answer ≡ Refused r → loading answer ≡ load-answer (length old) result → load-slice result old ≡ old
+pub refused-kept : (result : Result) (old : List ℕ) {answer : Loaded} {r : Refusal} → answer ≡ Refused r
+    → loading answer ≡ load-answer (length old) result → load-slice result old ≡ old
 unfolding load-slice
 refused-kept (elements numbers) old is e =
     ⊎-elim

@@ -38,5 +38,6 @@ sheet-lengths S p =
     ap (λ (n : ℕ). lengths n p (packs (map edge-arc (S .edges)))) count ∙ edges-lengths p (S .edges)
 
 -- and the total of a drawing of a proper sheet is what the code's total is
-pub drawing-total : (S : Sheet) (p : List ℕ) → Proper S → Drawing S p → min u32-most (lengths-of p (packs (map edge-arc (S .edges)))) ≡ total-length S p
+pub drawing-total : (S : Sheet) (p : List ℕ) → Proper S → Drawing S p
+    → min u32-most (lengths-of p (packs (map edge-arc (S .edges)))) ≡ total-length S p
 drawing-total S p proper d = omega (arith, sheet-lengths S p, total-small S p proper d)

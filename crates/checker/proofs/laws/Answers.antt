@@ -28,12 +28,14 @@ use Rattle.checker.specs.declared.Verdict.the-variants as variants
 
 module _ (nodes size : ℕ) (decision : List ℕ → List ℤ → Bool) (places : List ℕ) (list : List ℤ) where
   -- too few places
-  pub short-places : {v : Verdict} → v ≡ variants.Refused (refusal slice-short 0) → length places < nodes → judgement v ≡ decided nodes size decision places list
+  pub short-places : {v : Verdict} → v ≡ variants.Refused (refusal slice-short 0) → length places < nodes
+      → judgement v ≡ decided nodes size decision places list
   unfolding judgement decided
   short-places e h = rw (e, lt-ltb (length places) nodes h)
 
   -- too short a list
-  pub short-list : {v : Verdict} → v ≡ variants.Refused (refusal slice-short 0) → nodes ≤ length places → length list < size → judgement v ≡ decided nodes size decision places list
+  pub short-list : {v : Verdict} → v ≡ variants.Refused (refusal slice-short 0) → nodes ≤ length places
+      → length list < size → judgement v ≡ decided nodes size decision places list
   unfolding judgement decided
   short-list e h k = rw (e, le-ltb (length places) nodes h, lt-ltb (length list) size k)
 
@@ -44,19 +46,24 @@ module _ (nodes size : ℕ) (decision : List ℕ → List ℤ → Bool) (places 
     long-enough = rw (le-ltb (length places) nodes h, le-ltb (length list) size k)
 
     -- yes
-    pub says-yes : decision (take nodes places) (take size list) ≡ true → judgement variants.Yes ≡ decided nodes size decision places list
+    pub says-yes : decision (take nodes places) (take size list) ≡ true
+        → judgement variants.Yes ≡ decided nodes size decision places list
     unfolding judgement said
     says-yes e = sym (ap said e) ∙ long-enough
 
     -- no
-    pub says-no : decision (take nodes places) (take size list) ≡ false → judgement variants.No ≡ decided nodes size decision places list
+    pub says-no : decision (take nodes places) (take size list) ≡ false
+        → judgement variants.No ≡ decided nodes size decision places list
     unfolding judgement said
     says-no e = sym (ap said e) ∙ long-enough
 
 module _ {a : List ℕ} {c : Counts} (h : Holds a c) where
   -- the packed arcs decide as the sheet does
   same-decision : table-decision a c ≡ judged (sheet-of (h .numbers))
-  same-decision = fun-ext (λ p. fun-ext (λ y. ap (λ (N : Network). certifies N (integers p) y) (network-is h) ∙ sym (judged-certifies (h .numbers) p y)))
+  same-decision =
+      fun-ext
+      (λ p. fun-ext
+      (λ y. ap (λ (N : Network). certifies N (integers p) y) (network-is h) ∙ sym (judged-certifies (h .numbers) p y)))
 
   -- they answer for the sheet's numbers
   pub held-numbers : (places : List ℕ) (list : List ℤ)

@@ -55,7 +55,9 @@ module _ {a : List ℕ} {y : List ℤ} {n i result : ℕ} (p : Bounding a y n i 
     pub bounding-next : {r : ℤ} → i < n → r ≡ toZ w64 result -ℤ toZ w64 (ofZ w64 w) → Bounding a y n (i + 1) (ofZ w64 r)
     bounding-next {r} l e = record {
       turns = omega arith;
-      is = ap (ofZ w64) (e ∙ ap₂ _+ℤ_ result-is (ap negℤ (read w (omega arith) ∙ is)) ∙ sym (sum-next bound-term (flow-at a y) i));
+      is =
+          ap (ofZ w64)
+          (e ∙ ap₂ _+ℤ_ result-is (ap negℤ (read w (omega arith) ∙ is)) ∙ sym (sum-next bound-term (flow-at a y) i));
       small = rw (sum-next bound-term (flow-at a y) i) (omega (
         arith,
         size-add (bound-to a y i) (bound-term (flow-at a y i)),

@@ -43,7 +43,8 @@ module _ {a : List ℕ} {c : Counts} (h : Holds a c) (p : List ℕ) (long : leng
   })
 
   -- so the code's total is the network's
-  total-is : {r : ℕ} → r ≡ min u32-most (lengths-of p (take (stride * c .edges - 0) a)) → pos r ≡ total (network-of a (c .nodes) (c .arcs)) (integers p)
+  total-is : {r : ℕ} → r ≡ min u32-most (lengths-of p (take (stride * c .edges - 0) a))
+      → pos r ≡ total (network-of a (c .nodes) (c .arcs)) (integers p)
   total-is q =
       ap pos
       (q ∙ ap (λ (k : ℕ). min u32-most (lengths-of p (take k a))) (less-none (stride * c .edges))

@@ -57,7 +57,8 @@ difference a b k =
     )
 
 -- the two sides, and how far the arc is past its kink
-sides : (a p : List ℕ) (i : ℕ) → up (past-kink (integers p) (arc-at a i)) + tail-side a p i ≡ down (past-kink (integers p) (arc-at a i)) + head-side a p i
+sides : (a p : List ℕ) (i : ℕ)
+    → up (past-kink (integers p) (arc-at a i)) + tail-side a p i ≡ down (past-kink (integers p) (arc-at a i)) + head-side a p i
 sides a p i =
     rw (potential-is p (number a i head-at), potential-is p (number a i tail-at))
     (difference (coordinate p (number a i head-at)) (coordinate p (number a i tail-at)) (number a i kink-at))
@@ -149,7 +150,9 @@ module _ (a : List ℕ) (y : List ℤ) (i : ℕ) {x : ℤ} {n : ℕ} {b : Bool} 
 
   -- where it fails, the flow is not allowed
   pub below-low : not b ≡ true → false ≡ allowed (flow-at a y i)
-  below-low t = sym (ap (λ (c : Bool). c && at-most (getD y i (pos 0)) (high-of (number a i high-at))) (sym at-low ∙ not-true b t))
+  below-low t =
+      sym
+      (ap (λ (c : Bool). c && at-most (getD y i (pos 0)) (high-of (number a i high-at))) (sym at-low ∙ not-true b t))
 
   -- where it passes, the test of the high limit decides
   pub above-low : not b ≡ false → {x : ℤ} {n : ℕ} {r : Bool} → x ≡ getD y i (pos 0) → Wide n (number a i high-at) → r ≡ at-most x (high-of n)

@@ -28,7 +28,8 @@ said-yes true e = tt
 said-yes false e = let z : _≡_ {A = ℕ} 0 1 = cc in absurd (omega arith)
 
 -- yes is no refusal
-not-refused : (b : Bool) (r : Refusal) (j : Judgement) → cond b (Judgement.refused r) j ≡ Judgement.accepted → j ≡ Judgement.accepted
+not-refused : (b : Bool) (r : Refusal) (j : Judgement) → cond b (Judgement.refused r) j ≡ Judgement.accepted
+    → j ≡ Judgement.accepted
 not-refused true r j e = let z : _≡_ {A = ℕ} 0 1 = cc in absurd (omega arith)
 not-refused false r j e = e
 
@@ -58,7 +59,8 @@ pub record ShownLeast (read : Result) (places : List ℕ) : Type 0 where
   pub least : LeastDrawing (sheet-of numbers) (take (sheet-of numbers .nodes) places)
 
 -- yes, by what reading gives
-result-least : (read : Result) (places : List ℕ) (list : List ℤ) → check-answer read places list ≡ Judgement.accepted → ShownLeast read places
+result-least : (read : Result) (places : List ℕ) (list : List ℤ) → check-answer read places list ≡ Judgement.accepted
+    → ShownLeast read places
 unfolding check-answer
 result-least (elements numbers) places list e = record { numbers = numbers; reads = refl; least = numbers-least numbers places list e }
 result-least (Result.refused r) places list e = let z : _≡_ {A = ℕ} 0 1 = cc in absurd (omega arith)

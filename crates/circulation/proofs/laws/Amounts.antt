@@ -34,7 +34,9 @@ module _ {N : Net} {s t : ℕ} {p x e order via room : List ℕ} (r : Reached N 
     | no ne ↦ step (r .tree .links v l some ne) (λ u u-in u-some less. room-top k u u-in u-some (omega arith))
   ]
     where
-      step : Link N (at p) (at x) (at order) (at room) v (at via v) → ((u : ℕ) → u < length p → 0 < at order u → at order u < at order v → at room u ≤ at room s) → at room v ≤ at room s
+      step : Link N (at p) (at x) (at order) (at room) v (at via v)
+          → ((u : ℕ) → u < length p → 0 < at order u → at order u < at order v → at room u ≤ at room s)
+          → at room v ≤ at room s
       step k up = ⊎-elim
           (λ c. omega (arith, c .4, up (head N (at via v)) (r .state .wf .arc-in (at via v) (k .arc-in) .head-in) (c .1) (c .2)))
           (λ c. omega (arith, c .4, up (tail N (at via v)) (r .state .wf .arc-in (at via v) (k .arc-in) .tail-in) (c .1) (c .2)))

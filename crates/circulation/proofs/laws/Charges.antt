@@ -29,7 +29,8 @@ pub charged : (e : List ℕ) (h t a : ℕ) → h < length e → t < length e →
     → at (set (set e h (at e h + a)) t (at (set e h (at e h + a)) t - a)) v + pick t v a ≡ at e v + pick h v a
 charged e h t a h-in t-in enough v = go (ℕ-discrete v t) (ℕ-discrete v h)
   where
-    go : Dec (v ≡ t) → Dec (v ≡ h) → at (set (set e h (at e h + a)) t (at (set e h (at e h + a)) t - a)) v + pick t v a ≡ at e v + pick h v a
+    go : Dec (v ≡ t) → Dec (v ≡ h)
+        → at (set (set e h (at e h + a)) t (at (set e h (at e h + a)) t - a)) v + pick t v a ≡ at e v + pick h v a
     go (yes v-t) (yes v-h) =
         omega (
           arith,
@@ -83,7 +84,8 @@ module _ (nodes one new : List ℕ) (t h a more less : ℕ) (t-in : t < length n
   )
 
   -- both stores
-  pub charge-both : less ≡ at (needs one) h - a → Stored 1 h less one new → ((v : ℕ) → at (needs new) v + pick h v a ≡ at (needs nodes) v + pick t v a) × Apart 1 nodes new
+  pub charge-both : less ≡ at (needs one) h - a → Stored 1 h less one new
+      → ((v : ℕ) → at (needs new) v + pick h v a ≡ at (needs nodes) v + pick t v a) × Apart 1 nodes new
   charge-both less-is second = (
     λ v. rw (second .same, less-is, first .same, more-is) (charged (needs nodes) t h a (omega (arith, column-length 1 nodes)) (omega (arith, column-length 1 nodes)) enough v),
     apart-next (apart-next (apart-start 1 nodes) first) second,

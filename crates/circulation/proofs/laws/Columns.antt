@@ -29,12 +29,18 @@ module _ (k v a : ℕ) (nodes : List ℕ) (k-in : k < 6) (v-in : v < length node
       (column-length k (set nodes (node-stride * v + k) a) ∙ (size-same ∙ (sym (column-length k nodes) ∙ sym (length-set (column k nodes) v a))))
       (λ i l. each i (omega (arith, column-length k (set nodes (node-stride * v + k) a), size-same)))
     where
-      each : (i : ℕ) → i < length nodes / node-stride → at (column k (set nodes (node-stride * v + k) a)) i ≡ at (set (column k nodes) v a) i
+      each : (i : ℕ) → i < length nodes / node-stride
+          → at (column k (set nodes (node-stride * v + k) a)) i ≡ at (set (column k nodes) v a) i
       each i l = column-at k (set nodes (node-stride * v + k) a) i (omega (arith, size-same)) ∙ go (ℕ-discrete i v)
         where
           go : Dec (i ≡ v) → at (set nodes (node-stride * v + k) a) (node-stride * i + k) ≡ at (set (column k nodes) v a) i
-          go (yes e) = rw e (getD-set-same nodes (node-stride * v + k) a 0 (omega arith) ∙ sym (getD-set-same (column k nodes) v a 0 (omega (arith, column-length k nodes))))
-          go (no ne) = getD-set-other nodes (node-stride * v + k) (node-stride * i + k) a 0 (λ e. ne (omega arith)) ∙ (sym (column-at k nodes i l) ∙ sym (getD-set-other (column k nodes) v i a 0 ne))
+          go (yes e) =
+              rw e
+              (getD-set-same nodes (node-stride * v + k) a 0 (omega arith)
+              ∙ sym (getD-set-same (column k nodes) v a 0 (omega (arith, column-length k nodes))))
+          go (no ne) =
+              getD-set-other nodes (node-stride * v + k) (node-stride * i + k) a 0 (λ e. ne (omega arith))
+              ∙ (sym (column-at k nodes i l) ∙ sym (getD-set-other (column k nodes) v i a 0 ne))
 
   -- and the other columns
   other : (j : ℕ) → j < 6 → (j ≡ k → ⊥) → column j (set nodes (node-stride * v + k) a) ≡ column j nodes
@@ -42,7 +48,8 @@ module _ (k v a : ℕ) (nodes : List ℕ) (k-in : k < 6) (v-in : v < length node
       (column-length j (set nodes (node-stride * v + k) a) ∙ (size-same ∙ sym (column-length j nodes)))
       (λ i l. each i (omega (arith, column-length j (set nodes (node-stride * v + k) a), size-same)))
     where
-      each : (i : ℕ) → i < length nodes / node-stride → at (column j (set nodes (node-stride * v + k) a)) i ≡ at (column j nodes) i
+      each : (i : ℕ) → i < length nodes / node-stride
+          → at (column j (set nodes (node-stride * v + k) a)) i ≡ at (column j nodes) i
       each i l =
           column-at j (set nodes (node-stride * v + k) a) i (omega (arith, size-same))
           ∙ (getD-set-other nodes (node-stride * v + k) (node-stride * i + j) a 0 (λ e. ne (omega arith)) ∙ sym (column-at j nodes i l))
@@ -79,7 +86,8 @@ module _ {k a : ℕ} {nodes₀ : List ℕ} where
   fill-start = record { v-in = omega arith; only = apart-start k nodes₀; filled = below-none _ }
 
   -- one more is
-  pub fill-next : {nodes : List ℕ} {v : ℕ} (new : List ℕ) → Filling k a nodes₀ nodes v → v < length nodes₀ / node-stride → Stored k v a nodes new → Filling k a nodes₀ new (v + 1)
+  pub fill-next : {nodes : List ℕ} {v : ℕ} (new : List ℕ) → Filling k a nodes₀ nodes v → v < length nodes₀ / node-stride
+      → Stored k v a nodes new → Filling k a nodes₀ new (v + 1)
   fill-next {nodes} {v} new f l s = record {
     v-in = omega arith;
     only = apart-next (f .only) s;
@@ -89,7 +97,8 @@ module _ {k a : ℕ} {nodes₀ : List ℕ} where
   }
 
 -- a column that is filled with 0 is 0 everywhere
-pub fill-zeros : {k : ℕ} {old new : List ℕ} → ((v : ℕ) → v < length old / node-stride → at (column k new) v ≡ 0) → Apart k old new → (u : ℕ) → at (column k new) u ≡ 0
+pub fill-zeros : {k : ℕ} {old new : List ℕ} → ((v : ℕ) → v < length old / node-stride → at (column k new) v ≡ 0)
+    → Apart k old new → (u : ℕ) → at (column k new) u ≡ 0
 fill-zeros {k} {old} {new} f a u = go (decLt u (length old / node-stride))
   where
     go : Dec (u < length old / node-stride) → at (column k new) u ≡ 0
@@ -97,25 +106,44 @@ fill-zeros {k} {old} {new} f a u = go (decLt u (length old / node-stride))
     go (no out) = column-past k new u (omega (arith, a .length-same))
 
 -- three stores at a node
-pub reaches : {v rank parent room : ℕ} {old one two new : List ℕ} → Stored 2 v rank old one → Stored 3 v parent one two → Stored 4 v room two new → Reaches v rank parent room old new
+pub reaches : {v rank parent room : ℕ} {old one two new : List ℕ} → Stored 2 v rank old one → Stored 3 v parent one two
+    → Stored 4 v room two new → Reaches v rank parent room old new
 reaches {v} {rank} {parent} {room} a b c = record {
   length-same = c .length-same ∙ (b .length-same ∙ a .length-same);
-  potentials-same = c .others 0 (omega arith) (λ e. omega arith) ∙ (b .others 0 (omega arith) (λ e. omega arith) ∙ a .others 0 (omega arith) (λ e. omega arith));
-  needs-same = c .others 1 (omega arith) (λ e. omega arith) ∙ (b .others 1 (omega arith) (λ e. omega arith) ∙ a .others 1 (omega arith) (λ e. omega arith));
+  potentials-same =
+      c .others 0 (omega arith) (λ e. omega arith)
+      ∙ (b .others 0 (omega arith) (λ e. omega arith) ∙ a .others 0 (omega arith) (λ e. omega arith));
+  needs-same =
+      c .others 1 (omega arith) (λ e. omega arith)
+      ∙ (b .others 1 (omega arith) (λ e. omega arith) ∙ a .others 1 (omega arith) (λ e. omega arith));
   ranks-set = c .others 2 (omega arith) (λ e. omega arith) ∙ (b .others 2 (omega arith) (λ e. omega arith) ∙ a .same);
-  parents-set = c .others 3 (omega arith) (λ e. omega arith) ∙ (b .same ∙ ap (λ (l : List ℕ). set l v parent) (a .others 3 (omega arith) (λ e. omega arith)));
-  rooms-set = c .same ∙ ap (λ (l : List ℕ). set l v room) (b .others 4 (omega arith) (λ e. omega arith) ∙ a .others 4 (omega arith) (λ e. omega arith));
+  parents-set =
+      c .others 3 (omega arith) (λ e. omega arith)
+      ∙ (b .same ∙ ap (λ (l : List ℕ). set l v parent) (a .others 3 (omega arith) (λ e. omega arith)));
+  rooms-set =
+      c .same
+      ∙ ap (λ (l : List ℕ). set l v room)
+      (b .others 4 (omega arith) (λ e. omega arith) ∙ a .others 4 (omega arith) (λ e. omega arith));
 }
 
 -- ranks cleared, and one node reached
-pub begun : {s room : ℕ} {old one two new : List ℕ} → s < length old / node-stride → ((v : ℕ) → at (ranks one) v ≡ 0) → Apart 2 old one → Stored 2 s 1 one two → Stored 4 s room two new → Begun s room old new
+pub begun : {s room : ℕ} {old one two new : List ℕ} → s < length old / node-stride → ((v : ℕ) → at (ranks one) v ≡ 0)
+    → Apart 2 old one → Stored 2 s 1 one two → Stored 4 s room two new → Begun s room old new
 begun {s} {room} {old} {one} {two} {new} s-in zeros a b c = record {
   length-same = c .length-same ∙ (b .length-same ∙ a .length-same);
-  potentials-same = c .others 0 (omega arith) (λ e. omega arith) ∙ (b .others 0 (omega arith) (λ e. omega arith) ∙ a .others 0 (omega arith) (λ e. omega arith));
-  needs-same = c .others 1 (omega arith) (λ e. omega arith) ∙ (b .others 1 (omega arith) (λ e. omega arith) ∙ a .others 1 (omega arith) (λ e. omega arith));
-  root = ap (λ (l : List ℕ). at l s) rank-set ∙ getD-set-same (ranks one) s 1 0 (omega (arith, column-length 2 one, a .length-same));
+  potentials-same =
+      c .others 0 (omega arith) (λ e. omega arith)
+      ∙ (b .others 0 (omega arith) (λ e. omega arith) ∙ a .others 0 (omega arith) (λ e. omega arith));
+  needs-same =
+      c .others 1 (omega arith) (λ e. omega arith)
+      ∙ (b .others 1 (omega arith) (λ e. omega arith) ∙ a .others 1 (omega arith) (λ e. omega arith));
+  root =
+      ap (λ (l : List ℕ). at l s) rank-set
+      ∙ getD-set-same (ranks one) s 1 0 (omega (arith, column-length 2 one, a .length-same));
   alone = λ v ne. ap (λ (l : List ℕ). at l v) rank-set ∙ (getD-set-other (ranks one) s v 1 0 ne ∙ zeros v);
-  root-room = ap (λ (l : List ℕ). at l s) (c .same) ∙ getD-set-same (rooms two) s room 0 (omega (arith, column-length 4 two, b .length-same, a .length-same));
+  root-room =
+      ap (λ (l : List ℕ). at l s) (c .same)
+      ∙ getD-set-same (rooms two) s room 0 (omega (arith, column-length 4 two, b .length-same, a .length-same));
 }
   where
     rank-set : ranks new ≡ set (ranks one) s 1

@@ -26,7 +26,8 @@ unfolding sum-to
 flow-none ends x v = refl
 
 -- flows that differ by little
-pub flow-near : (m : ℕ) (ends x y : ℕ → ℕ) (v : ℕ) → ((i : ℕ) → i < m → x i ≤ y i + 1024) → flow m ends x v ≤ flow m ends y v + flow m ends (λ i. 1024) v
+pub flow-near : (m : ℕ) (ends x y : ℕ → ℕ) (v : ℕ) → ((i : ℕ) → i < m → x i ≤ y i + 1024)
+    → flow m ends x v ≤ flow m ends y v + flow m ends (λ i. 1024) v
 flow-near m ends x y v near = omega (
   arith,
   sum-to-le m (λ i. pick (ends i) v (x i)) (λ i. pick (ends i) v (y i) + pick (ends i) v 1024) (λ i l. pick-near (ends i) v (x i) (y i) (near i l)),
@@ -97,7 +98,8 @@ module _ {N : Net} {n : ℕ} {x : List ℕ} where
     }
 
   -- all are
-  pub count-all : {e : List ℕ} {i : ℕ} → Counting N n x e i → arcs N ≤ i → (v : ℕ) → v < n → at e v + inflow N (arcs N) (at x) v ≡ need-zero + outflow N (arcs N) (at x) v
+  pub count-all : {e : List ℕ} {i : ℕ} → Counting N n x e i → arcs N ≤ i → (v : ℕ) → v < n
+      → at e v + inflow N (arcs N) (at x) v ≡ need-zero + outflow N (arcs N) (at x) v
   count-all {e} {i} c past v v-in =
       let same : i ≡ arcs N = omega (arith, c .i-in) in
       subst (λ (k : ℕ). at e v + inflow N k (at x) v ≡ need-zero + outflow N k (at x) v) same (c .sofar v v-in)

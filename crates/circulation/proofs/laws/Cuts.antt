@@ -37,8 +37,12 @@ keep-sum : (o m : ℕ) (f : ℕ → ℕ) → keep o (sum-to m f) ≡ sum-to m (�
 keep-sum o m f = go (ℕ-discrete o 0)
   where
     go : Dec (o ≡ 0) → keep o (sum-to m f) ≡ sum-to m (λ i. keep o (f i))
-    go (yes e) = keep-out o (sum-to m f) e ∙ sym (sum-to-eq m (λ i. keep o (f i)) (λ i. 0) (λ i l. keep-out o (f i) e) ∙ sum-to-zero m)
-    go (no ne) = keep-in o (sum-to m f) (omega arith) ∙ sym (sum-to-eq m (λ i. keep o (f i)) f (λ i l. keep-in o (f i) (omega arith)))
+    go (yes e) =
+        keep-out o (sum-to m f) e
+        ∙ sym (sum-to-eq m (λ i. keep o (f i)) (λ i. 0) (λ i l. keep-out o (f i) e) ∙ sum-to-zero m)
+    go (no ne) =
+        keep-in o (sum-to m f) (omega arith)
+        ∙ sym (sum-to-eq m (λ i. keep o (f i)) f (λ i l. keep-in o (f i) (omega arith)))
 
 -- of all nodes only one is picked
 keep-pick : (n u a : ℕ) (order : ℕ → ℕ) → u < n → sum-to n (λ v. keep (order v) (pick u v a)) ≡ keep (order u) a
@@ -57,7 +61,8 @@ keep-pick n u a order l = omega (
         go (no ne) = keep-in o b (omega arith) ∙ z
 
 -- the flows at the reached nodes are those of the arcs that end there
-keep-flow : (n m : ℕ) (ends x order : ℕ → ℕ) → ((i : ℕ) → i < m → ends i < n) → sum-to n (λ v. keep (order v) (flow m ends x v)) ≡ sum-to m (λ i. keep (order (ends i)) (x i))
+keep-flow : (n m : ℕ) (ends x order : ℕ → ℕ) → ((i : ℕ) → i < m → ends i < n)
+    → sum-to n (λ v. keep (order v) (flow m ends x v)) ≡ sum-to m (λ i. keep (order (ends i)) (x i))
 keep-flow n m ends x order inside =
     sum-to-eq n (λ v. keep (order v) (flow m ends x v)) (λ v. sum-to m (λ i. keep (order v) (pick (ends i) v (x i)))) (λ v l. keep-sum (order v) m (λ i. pick (ends i) v (x i)))
     ∙ sum-to-swap n m (λ v i. keep (order v) (pick (ends i) v (x i)))
@@ -97,8 +102,22 @@ module _ (N : Net) (n : ℕ) (p x order e : ℕ → ℕ) (wf : WellFormed N n) (
       go : Dec (order (tail N i) ≡ 0) → Dec (order (head N i) ≡ 0)
           → keep (order (tail N i)) (x i) + keep (order (head N i)) flow-zero ≤ keep (order (head N i)) (x i) + keep (order (tail N i)) flow-zero
       go (yes te) (yes he) = omega (arith, keep-out (order (tail N i)) (x i) te, keep-out (order (head N i)) flow-zero he)
-      go (yes te) (no hn) = omega (arith, keep-out (order (tail N i)) (x i) te, keep-in (order (head N i)) flow-zero (omega arith), keep-in (order (head N i)) (x i) (omega arith), full (omega arith) te)
-      go (no tn) (yes he) = omega (arith, keep-in (order (tail N i)) (x i) (omega arith), keep-in (order (tail N i)) flow-zero (omega arith), keep-out (order (head N i)) flow-zero he, empty (omega arith) he)
+      go (yes te) (no hn) =
+          omega (
+            arith,
+            keep-out (order (tail N i)) (x i) te,
+            keep-in (order (head N i)) flow-zero (omega arith),
+            keep-in (order (head N i)) (x i) (omega arith),
+            full (omega arith) te,
+          )
+      go (no tn) (yes he) =
+          omega (
+            arith,
+            keep-in (order (tail N i)) (x i) (omega arith),
+            keep-in (order (tail N i)) flow-zero (omega arith),
+            keep-out (order (head N i)) flow-zero he,
+            empty (omega arith) he,
+          )
       go (no tn) (no hn) = omega (
         arith,
         keep-in (order (tail N i)) (x i) (omega arith),
@@ -135,4 +154,11 @@ module _ (N : Net) (n : ℕ) (p x order e : ℕ → ℕ) (wf : WellFormed N n) (
     where
       one : (v : ℕ) → v < n → Dec (order v ≡ 0) → keep (order v) (inflow N (arcs N) x v) ≤ keep (order v) (outflow N (arcs N) x v)
       one v l (yes e0) = omega (arith, keep-out (order v) (inflow N (arcs N) x v) e0)
-      one v l (no ne) = omega (arith, keep-in (order v) (inflow N (arcs N) x v) (omega arith), keep-in (order v) (outflow N (arcs N) x v) (omega arith), need .need v l, full v l (omega arith))
+      one v l (no ne) =
+          omega (
+            arith,
+            keep-in (order v) (inflow N (arcs N) x v) (omega arith),
+            keep-in (order v) (outflow N (arcs N) x v) (omega arith),
+            need .need v l,
+            full v l (omega arith),
+          )

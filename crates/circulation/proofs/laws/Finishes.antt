@@ -38,20 +38,28 @@ module _ (N : Net) (n : ℕ) (p : ℕ → ℕ) (wf : WellFormed N n) (rooted : R
   near-ground v l = omega (arith, near-to (suc v) v (omega arith) l, wf .nodes)
 
 -- what the last search leaves can be stored relative to ground
-pub flooded-grounded : {N : Net} {n : ℕ} {x : List ℕ} (nodes : List ℕ) → size nodes ≡ n → WellFormed N n → Rooted N n → Flooded N n x nodes → Grounded nodes
+pub flooded-grounded : {N : Net} {n : ℕ} {x : List ℕ} (nodes : List ℕ) → size nodes ≡ n → WellFormed N n → Rooted N n
+    → Flooded N n x nodes → Grounded nodes
 flooded-grounded {N} {n} {x} nodes e wf rooted f = record {
   some = omega (arith, wf .some);
   few = omega (arith, wf .nodes);
   small = f .grown .ready .p-in;
-  near = λ v l. omega (arith, ap (λ (k : ℕ). at (potentials nodes) (k - 1)) e, near-ground N n (at (potentials nodes)) wf rooted (slack-feasible (f .grown .slack)) v (omega arith));
+  near =
+      λ v l. omega (
+        arith,
+        ap (λ (k : ℕ). at (potentials nodes) (k - 1)) e,
+        near-ground N n (at (potentials nodes)) wf rooted (slack-feasible (f .grown .slack)) v (omega arith),
+      );
 }
 
 -- the number stored
 pub stored-here : {k v a : ℕ} {old new : List ℕ} → Stored k v a old new → v < size old → at (column k new) v ≡ a
-stored-here {k} {v} {a} {old} {new} s l = ap (λ (o : List ℕ). at o v) (s .same) ∙ getD-set-same (column k old) v a 0 (omega (arith, column-length k old))
+stored-here {k} {v} {a} {old} {new} s l =
+    ap (λ (o : List ℕ). at o v) (s .same) ∙ getD-set-same (column k old) v a 0 (omega (arith, column-length k old))
 
 -- and the other ones of its column
-pub stored-there : {k v a : ℕ} {old new : List ℕ} (u : ℕ) → Stored k v a old new → (u ≡ v → ⊥) → at (column k new) u ≡ at (column k old) u
+pub stored-there : {k v a : ℕ} {old new : List ℕ} (u : ℕ) → Stored k v a old new → (u ≡ v → ⊥)
+    → at (column k new) u ≡ at (column k old) u
 stored-there {k} {v} {a} {old} {new} u s ne = ap (λ (o : List ℕ). at o u) (s .same) ∙ getD-set-other (column k old) v u a 0 ne
 
 -- the potentials of the first v nodes are relative to ground's
@@ -67,7 +75,9 @@ module _ {nodes₀ : List ℕ} where
   settle-start = record { v-in = omega arith; length-same = refl; done = below-none _; todo = λ u l. refl }
 
   -- one more is
-  pub settle-next : {nodes : List ℕ} {v a : ℕ} (new : List ℕ) → Settling nodes₀ nodes v → v < size nodes₀ → Stored 0 v a nodes new → a + ground-of nodes₀ ≡ at (potentials nodes₀) v + potential-zero → Settling nodes₀ new (v + 1)
+  pub settle-next : {nodes : List ℕ} {v a : ℕ} (new : List ℕ) → Settling nodes₀ nodes v → v < size nodes₀
+      → Stored 0 v a nodes new → a + ground-of nodes₀ ≡ at (potentials nodes₀) v + potential-zero
+      → Settling nodes₀ new (v + 1)
   settle-next {nodes} {v} {a} new m l s e = record {
     v-in = omega arith;
     length-same = s .length-same ∙ m .length-same;
@@ -86,7 +96,8 @@ pub zeroed-start : (nodes : List ℕ) → Zeroed 1 nodes
 zeroed-start nodes = record { zero = λ j v some few. absurd (omega arith) }
 
 -- one more number of every node is
-pub zeroed-next : {k : ℕ} {nodes new : List ℕ} → k < 6 → Zeroed k nodes → ((v : ℕ) → at (column k new) v ≡ 0) → Apart k nodes new → Zeroed (k + 1) new
+pub zeroed-next : {k : ℕ} {nodes new : List ℕ} → k < 6 → Zeroed k nodes → ((v : ℕ) → at (column k new) v ≡ 0)
+    → Apart k nodes new → Zeroed (k + 1) new
 zeroed-next {k} {nodes} {new} k-in z here apart = record { zero = λ j v some few. go j v some few (ℕ-discrete j k) }
   where
     go : (j v : ℕ) → 0 < j → j < k + 1 → Dec (j ≡ k) → at (column j new) v ≡ 0
@@ -99,7 +110,8 @@ settled-same {old} {mid} {new} s e = record { relative = λ v l. ap (λ (p : Lis
 
 -- a list that is filled with 0 from the front: one more element
 pub zeros-more : (l : List ℕ) (i : ℕ) → i < length l → ((k : ℕ) → k < i → at l k ≡ 0) → (k : ℕ) → k < i + 1 → at (set l i 0) k ≡ 0
-zeros-more l i i-in z = below-more _ i (λ k below. getD-set-other l i k 0 0 (omega arith) ∙ z k below) (getD-set-same l i 0 0 i-in)
+zeros-more l i i-in z =
+    below-more _ i (λ k below. getD-set-other l i k 0 0 (omega arith) ∙ z k below) (getD-set-same l i 0 0 i-in)
 
 -- every element
 pub zeros-all : (l : List ℕ) → ((k : ℕ) → k < length l → at l k ≡ 0) → (i : ℕ) → at l i ≡ 0

@@ -51,11 +51,13 @@ pub flow-le : (m : ℕ) (ends : ℕ → ℕ) (x : ℕ → ℕ) (v : ℕ) → flo
 flow-le m ends x v = sum-to-le m (λ i. pick (ends i) v (x i)) x (λ i l. pick-le (ends i) v (x i))
 
 -- a flow after a store
-pub flow-set : (m : ℕ) (ends : ℕ → ℕ) (x : List ℕ) (i a w : ℕ) → i < m → i < length x → flow m ends (at (set x i a)) w + pick (ends i) w (at x i) ≡ flow m ends (at x) w + pick (ends i) w a
+pub flow-set : (m : ℕ) (ends : ℕ → ℕ) (x : List ℕ) (i a w : ℕ) → i < m → i < length x
+    → flow m ends (at (set x i a)) w + pick (ends i) w (at x i) ≡ flow m ends (at x) w + pick (ends i) w a
 flow-set m ends x i a w l in-list = sum-to-set m (λ j b. pick (ends j) w b) x i a l in-list
 
 -- over all nodes as much flows in as out
-pub in-is-out : (N : Net) (n m : ℕ) (x : ℕ → ℕ) → ((i : ℕ) → i < m → tail N i < n) → ((i : ℕ) → i < m → head N i < n) → sum-to n (inflow N m x) ≡ sum-to n (outflow N m x)
+pub in-is-out : (N : Net) (n m : ℕ) (x : ℕ → ℕ) → ((i : ℕ) → i < m → tail N i < n) → ((i : ℕ) → i < m → head N i < n)
+    → sum-to n (inflow N m x) ≡ sum-to n (outflow N m x)
 in-is-out N n m x tails heads = omega (
   arith,
   sum-to-add n (flow m (head N) x) (flow m (tail N) (λ i. flow-zero)),

@@ -21,15 +21,27 @@ module _ {a b h t x l c : ℕ} where
   -- the step of an arc whose head is reached
   pub entering : {r : ℕ} → 0 < h → t ≡ 0 → Distance a b x c r → Gap a b h t x l c r
   entering from to d = record {
-    some = λ few. (inl (record { from = from; to = to; slack = d .some few .0; room = d .some few .1 }), omega (arith, d .some few .0, d .some few .2));
-    least = ⊎-elim (λ e. (omega (arith, e .slack, d .least (e .slack) (e .room) .0), d .least (e .slack) (e .room) .1)) (λ e. absurd (omega (arith, e .to)));
+    some =
+        λ few. (
+          inl (record { from = from; to = to; slack = d .some few .0; room = d .some few .1 }),
+          omega (arith, d .some few .0, d .some few .2),
+        );
+    least =
+        ⊎-elim (λ e. (omega (arith, e .slack, d .least (e .slack) (e .room) .0), d .least (e .slack) (e .room) .1))
+        (λ e. absurd (omega (arith, e .to)));
   }
 
   -- the step of an arc whose tail is reached
   pub leaving : {r : ℕ} → 0 < t → h ≡ 0 → Distance b a l x r → Gap a b h t x l c r
   leaving from to d = record {
-    some = λ few. (inr (record { from = from; to = to; slack = d .some few .0; room = d .some few .1 }), omega (arith, d .some few .0, d .some few .2));
-    least = ⊎-elim (λ e. absurd (omega (arith, e .from))) (λ e. (omega (arith, e .slack, d .least (e .slack) (e .room) .0), d .least (e .slack) (e .room) .1));
+    some =
+        λ few. (
+          inr (record { from = from; to = to; slack = d .some few .0; room = d .some few .1 }),
+          omega (arith, d .some few .0, d .some few .2),
+        );
+    least =
+        ⊎-elim (λ e. absurd (omega (arith, e .from)))
+        (λ e. (omega (arith, e .slack, d .least (e .slack) (e .room) .0), d .least (e .slack) (e .room) .1));
   }
 
   -- an arc between reached nodes has none
@@ -49,11 +61,13 @@ same-distance ea eb ex ec d = record {
 
 module _ (N : Net) (p x order : ℕ → ℕ) (i : ℕ) where
   -- the step of arc i, from the numbers read: its head is reached
-  pub gap-enter : {a b y c r : ℕ} → a ≡ stands N p i → b ≡ asks N p i → y ≡ x i → c ≡ high N i → 0 < order (head N i) → order (tail N i) ≡ 0 → Distance a b y c r → GapAt N p x order i r
+  pub gap-enter : {a b y c r : ℕ} → a ≡ stands N p i → b ≡ asks N p i → y ≡ x i → c ≡ high N i → 0 < order (head N i)
+      → order (tail N i) ≡ 0 → Distance a b y c r → GapAt N p x order i r
   gap-enter ea eb ey ec from to d = entering from to (same-distance ea eb ey ec d)
 
   -- its tail is reached
-  pub gap-leave : {a b y c r : ℕ} → a ≡ stands N p i → b ≡ asks N p i → y ≡ x i → c ≡ low N i → 0 < order (tail N i) → order (head N i) ≡ 0 → Distance b a c y r → GapAt N p x order i r
+  pub gap-leave : {a b y c r : ℕ} → a ≡ stands N p i → b ≡ asks N p i → y ≡ x i → c ≡ low N i → 0 < order (tail N i)
+      → order (head N i) ≡ 0 → Distance b a c y r → GapAt N p x order i r
   gap-leave ea eb ey ec from to d = leaving from to (same-distance eb ea ec ey d)
 
 -- among the first i arcs, arc has the least step, best; 2 ^ 32 where none crosses
@@ -75,7 +89,9 @@ module _ {N : Net} {p x order : ℕ → ℕ} where
       in-list = omega arith;
       top = omega (arith, s .top);
       found = λ few. (omega arith, g .some few .0, g .some few .1);
-      least = below-more _ i (λ j j-in w. (omega (arith, s .least j j-in w .0), omega (arith, s .top))) (λ w. (omega (arith, g .least w .0), g .least w .1));
+      least =
+          below-more _ i (λ j j-in w. (omega (arith, s .least j j-in w .0), omega (arith, s .top)))
+          (λ w. (omega (arith, g .least w .0), g .least w .1));
     }
 
     -- or it has not
@@ -88,11 +104,16 @@ module _ {N : Net} {p x order : ℕ → ℕ} where
     }
 
   -- the arc found is nearest, where some arc crosses
-  pub seek-found : {best arc i : ℕ} → Seeking N p x order best arc i → arcs N ≤ i → Crossing N p x order → Nearest N (arcs N) p x order arc
+  pub seek-found : {best arc i : ℕ} → Seeking N p x order best arc i → arcs N ≤ i → Crossing N p x order
+      → Nearest N (arcs N) p x order arc
   seek-found {best} {arc} {i} s past some = go (decLt best 4294967296)
     where
       go : Dec (best < 4294967296) → Nearest N (arcs N) p x order arc
-      go (yes few) = (omega (arith, s .found few .0, s .in-list), s .found few .1, λ j l w. omega (arith, s .least j (omega arith) w .0, s .found few .2))
+      go (yes few) = (
+        omega (arith, s .found few .0, s .in-list),
+        s .found few .1,
+        λ j l w. omega (arith, s .least j (omega arith) w .0, s .found few .2),
+      )
       go (no none) = absurd (some (λ j l w. omega (arith, s .least j (omega arith) w .1)))
 
 -- an arc that crosses on its kink is nearest

@@ -52,7 +52,8 @@ zeros = (refl, refl)
 not-reached : (none l x : ℕ) → (x ≡ l → ⊥) → T (not (reached (limit-of none l) (pos x -ℤ pos flow-zero)))
 not-reached none l x ne = go (ℕ-discrete l none)
   where
-    go : Dec (l ≡ none) → T (not (reached (cond (eqb l none) unlimited (limit (pos l -ℤ pos flow-zero))) (pos x -ℤ pos flow-zero)))
+    go : Dec (l ≡ none)
+        → T (not (reached (cond (eqb l none) unlimited (limit (pos l -ℤ pos flow-zero))) (pos x -ℤ pos flow-zero)))
     go (yes e) = rw (eq-eqb l none e) tt
     go (no other) = rw (ne-eqb l none other) (fails (eqZ (pos x -ℤ pos flow-zero) (pos l -ℤ pos flow-zero)) (λ t.
         let same = eqZ→eq (pos x -ℤ pos flow-zero) (pos l -ℤ pos flow-zero) t in
@@ -68,7 +69,9 @@ module _ (N : Net) (n : ℕ) (p x order via room : ℕ → ℕ) (wf : WellFormed
     -- each flow is tight under q
     tights : (i : ℕ) → i < arcs N → T (tight q (on i))
     unfolding complementary
-    tights i l = upto-all (tight q) (arcs N) on (rw (← flows-by-index (arcs N) (arc-at (N .list)) (λ i. pos (x i) -ℤ pos flow-zero)) t) i l
+    tights i l =
+        upto-all (tight q) (arcs N) on
+        (rw (← flows-by-index (arcs N) (arc-at (N .list)) (λ i. pos (x i) -ℤ pos flow-zero)) t) i l
 
     -- the coordinates shifted by base are natural
     base : ℕ
@@ -84,7 +87,8 @@ module _ (N : Net) (n : ℕ) (p x order via room : ℕ → ℕ) (wf : WellFormed
     shift-is v l = omega (arith, sum-to-ge n (λ v. down (potential q v)) v l)
 
     -- how far past its kink an arc is, in the parts of the potentials
-    off-is : (i : ℕ) → up (past-kink q (arc-at (N .list) i)) + (up (potential q (tail N i)) + down (potential q (head N i)) + kink N i) ≡ down (past-kink q (arc-at (N .list) i)) + (down (potential q (tail N i)) + up (potential q (head N i)) + kink-zero)
+    off-is : (i : ℕ)
+        → up (past-kink q (arc-at (N .list) i)) + (up (potential q (tail N i)) + down (potential q (head N i)) + kink N i) ≡ down (past-kink q (arc-at (N .list) i)) + (down (potential q (tail N i)) + up (potential q (head N i)) + kink-zero)
     off-is i = omega (
       arith,
       minus-parts (potential q (head N i) -ℤ potential q (tail N i)) (pos (kink N i) -ℤ pos kink-zero),
@@ -135,16 +139,20 @@ module _ (N : Net) (n : ℕ) (p x order via room : ℕ → ℕ) (wf : WellFormed
   solution = record {
     follows-rules = follows N n p x wf slack bal;
     no-slack = no-slacks N n p x wf slack bal;
-    best = tight-leftmost (meant N n) (flows-of (arcs N) x) (relative n p) (follows N n p x wf slack bal) (upto-length (n - 1) (λ v. pos (p v) -ℤ pos (p (n - 1)))) (no-slacks N n p x wf slack bal) above;
+    best =
+        tight-leftmost (meant N n) (flows-of (arcs N) x) (relative n p) (follows N n p x wf slack bal)
+        (upto-length (n - 1) (λ v. pos (p v) -ℤ pos (p (n - 1)))) (no-slacks N n p x wf slack bal) above;
   }
 
 -- potentials that are stored relative to ground's are these
-shifted-same : (n : ℕ) (p q : ℕ → ℕ) → ((v : ℕ) → v < n → q v + p (n - 1) ≡ p v + potential-zero) → potentials-of n q ≡ relative n p
+shifted-same : (n : ℕ) (p q : ℕ → ℕ) → ((v : ℕ) → v < n → q v + p (n - 1) ≡ p v + potential-zero)
+    → potentials-of n q ≡ relative n p
 shifted-same n p q e = upto-ext (n - 1) (λ v. pos (q v) -ℤ pos potential-zero) (λ v. pos (p v) -ℤ pos (p (n - 1))) (λ v l.
     parts-eq (pos (q v) -ℤ pos potential-zero) (pos (p v) -ℤ pos (p (n - 1))) (omega (arith, less-parts (q v) potential-zero, less-parts (p v) (p (n - 1)), e v (omega arith))))
 
 -- what the last search leaves, once the potentials are relative to ground's
-pub flooded-solution : (N : Net) (n : ℕ) (x nodes new : List ℕ) → WellFormed N n → size nodes ≡ n → Balanced N n (at x) → Flooded N n x nodes → Settled nodes new → Solution N n (at x) (at (potentials new))
+pub flooded-solution : (N : Net) (n : ℕ) (x nodes new : List ℕ) → WellFormed N n → size nodes ≡ n → Balanced N n (at x)
+    → Flooded N n x nodes → Settled nodes new → Solution N n (at x) (at (potentials new))
 flooded-solution N n x nodes new wf size-is bal f settled =
     record {
       follows-rules = r .follows-rules;

@@ -33,8 +33,11 @@ abbrev pub relative : ℕ → (ℕ → ℕ) → List ℤ
 relative n p = upto (n - 1) (λ v. pos (p v) -ℤ pos (p (n - 1)))
 
 -- flows by index on arcs by index
-pub flows-by-index : (m : ℕ) (f : ℕ → Arc) (g : ℕ → ℤ) → flows (upto m f) (upto m g) ≡ upto m (λ i. record { on = f i; amount = g i })
-flows-by-index m f g = flows-upto f (upto m g) m ∙ upto-ext m _ _ (λ i l. ap (λ (y : ℤ). record { on = f i; amount = y }) (upto-in (pos 0) m g i l))
+pub flows-by-index : (m : ℕ) (f : ℕ → Arc) (g : ℕ → ℤ)
+    → flows (upto m f) (upto m g) ≡ upto m (λ i. record { on = f i; amount = g i })
+flows-by-index m f g =
+    flows-upto f (upto m g) m
+    ∙ upto-ext m _ _ (λ i l. ap (λ (y : ℤ). record { on = f i; amount = y }) (upto-in (pos 0) m g i l))
 
 -- a sum of integers, each of which is a natural number minus another
 sum-parts-to : {A : Type 0} (g : A → ℤ) (m : ℕ) (fl : ℕ → A) (a b : ℕ → ℕ) → ((i : ℕ) → up (g (fl i)) + b i ≡ down (g (fl i)) + a i)
@@ -85,7 +88,8 @@ only-parts : (u v x b : ℕ) → up (only u (pos x -ℤ pos b) v) + pick u v b �
 unfolding up down
 only-parts u v x b = go (ℕ-discrete u v)
   where
-    go : Dec (u ≡ v) → up (cond (eqb u v) (pos x -ℤ pos b) (pos 0)) + pick u v b ≡ down (cond (eqb u v) (pos x -ℤ pos b) (pos 0)) + pick u v x
+    go : Dec (u ≡ v)
+        → up (cond (eqb u v) (pos x -ℤ pos b) (pos 0)) + pick u v b ≡ down (cond (eqb u v) (pos x -ℤ pos b) (pos 0)) + pick u v x
     go (yes e) = rw (eq-eqb u v e) (omega (arith, less-parts x b, pick-yes u v b e, pick-yes u v x e))
     go (no ne) = rw (ne-eqb u v ne) (omega (arith, pick-no u v b ne, pick-no u v x ne))
 
@@ -95,7 +99,8 @@ module _ (N : Net) (n : ℕ) (p x : ℕ → ℕ) (wf : WellFormed N n) (slack : 
   on-arc i = record { on = arc-at (N .list) i; amount = pos (x i) -ℤ pos flow-zero }
 
   -- the parts of what it brings to node v
-  brings-parts : (v i : ℕ) → up (inflow v (on-arc i)) + (pick (tail N i) v (x i) + pick (head N i) v flow-zero) ≡ down (inflow v (on-arc i)) + (pick (head N i) v (x i) + pick (tail N i) v flow-zero)
+  brings-parts : (v i : ℕ)
+      → up (inflow v (on-arc i)) + (pick (tail N i) v (x i) + pick (head N i) v flow-zero) ≡ down (inflow v (on-arc i)) + (pick (head N i) v (x i) + pick (tail N i) v flow-zero)
   brings-parts v i = omega (
     arith,
     minus-parts (only (head N i) (pos (x i) -ℤ pos flow-zero) v) (only (tail N i) (pos (x i) -ℤ pos flow-zero) v),
@@ -124,7 +129,8 @@ module _ (N : Net) (n : ℕ) (p x : ℕ → ℕ) (wf : WellFormed N n) (slack : 
       go (no ne) = rw (upto-in (pos 0) (n - 1) (λ v. pos (p v) -ℤ pos (p (n - 1))) v (omega arith)) (less-parts (p v) (p (n - 1)))
 
   -- how far past its kink an arc is
-  off-parts : (i : ℕ) → i < arcs N → up (past-kink (relative n p) (arc-at (N .list) i)) + asks N p i ≡ down (past-kink (relative n p) (arc-at (N .list) i)) + stands N p i
+  off-parts : (i : ℕ) → i < arcs N
+      → up (past-kink (relative n p) (arc-at (N .list) i)) + asks N p i ≡ down (past-kink (relative n p) (arc-at (N .list) i)) + stands N p i
   off-parts i l = omega (
     arith,
     minus-parts (potential (relative n p) (head N i) -ℤ potential (relative n p) (tail N i)) (pos (kink N i) -ℤ pos kink-zero),
@@ -141,12 +147,24 @@ module _ (N : Net) (n : ℕ) (p x : ℕ → ℕ) (wf : WellFormed N n) (slack : 
       (λ open-high. not-right open-high (decLt (asks N p i) (stands N p i)))
       (λ open-low. not-left open-low (decLt (stands N p i) (asks N p i)))
     where
-      not-right : T (not (reached (limit-of high-none (high N i)) (pos (x i) -ℤ pos flow-zero))) → Dec (asks N p i < stands N p i) → past-kink (relative n p) (arc-at (N .list) i) ≤ℤ pos 0
-      not-right o (yes more) = absurd (not-both (reached (limit-of high-none (high N i)) (pos (x i) -ℤ pos flow-zero)) (is-reached high-none (high N i) (x i) (slack .right i l more) (λ hard. omega (arith, slack .right i l more, slack .not-full i l hard))) o)
+      not-right : T (not (reached (limit-of high-none (high N i)) (pos (x i) -ℤ pos flow-zero)))
+          → Dec (asks N p i < stands N p i) → past-kink (relative n p) (arc-at (N .list) i) ≤ℤ pos 0
+      not-right o (yes more) =
+          absurd
+          (not-both (reached (limit-of high-none (high N i)) (pos (x i) -ℤ pos flow-zero))
+          (is-reached high-none (high N i) (x i) (slack .right i l more)
+          (λ hard. omega (arith, slack .right i l more, slack .not-full i l hard)))
+          o)
       not-right o (no le) = parts-le (past-kink (relative n p) (arc-at (N .list) i)) (pos 0) (omega (arith, off-parts i l))
 
-      not-left : T (not (reached (limit-of 0 (low N i)) (pos (x i) -ℤ pos flow-zero))) → Dec (stands N p i < asks N p i) → pos 0 ≤ℤ past-kink (relative n p) (arc-at (N .list) i)
-      not-left o (yes less) = absurd (not-both (reached (limit-of 0 (low N i)) (pos (x i) -ℤ pos flow-zero)) (is-reached 0 (low N i) (x i) (slack .left i l less) (λ hard. omega (arith, slack .left i l less, slack .not-empty i l hard))) o)
+      not-left : T (not (reached (limit-of 0 (low N i)) (pos (x i) -ℤ pos flow-zero))) → Dec (stands N p i < asks N p i)
+          → pos 0 ≤ℤ past-kink (relative n p) (arc-at (N .list) i)
+      not-left o (yes less) =
+          absurd
+          (not-both (reached (limit-of 0 (low N i)) (pos (x i) -ℤ pos flow-zero))
+          (is-reached 0 (low N i) (x i) (slack .left i l less)
+          (λ hard. omega (arith, slack .left i l less, slack .not-empty i l hard)))
+          o)
       not-left o (no le) = parts-le (pos 0) (past-kink (relative n p) (arc-at (N .list) i)) (omega (arith, off-parts i l))
 
   -- a flow is allowed
@@ -166,4 +184,6 @@ module _ (N : Net) (n : ℕ) (p x : ℕ → ℕ) (wf : WellFormed N n) (slack : 
   -- flows and potentials are in complementary slackness
   pub no-slacks : T (complementary (meant N n) (flows-of (arcs N) x) (relative n p))
   unfolding complementary
-  no-slacks = rw (flows-by-index (arcs N) (arc-at (N .list)) (λ i. pos (x i) -ℤ pos flow-zero)) (all-upto (tight (relative n p)) (arcs N) on-arc tight-at)
+  no-slacks =
+      rw (flows-by-index (arcs N) (arc-at (N .list)) (λ i. pos (x i) -ℤ pos flow-zero))
+      (all-upto (tight (relative n p)) (arcs N) on-arc tight-at)

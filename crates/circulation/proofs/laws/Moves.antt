@@ -57,10 +57,13 @@ module _ {d : ℕ} {nodes₀ : List ℕ} where
     -- the next one may move
     pub move-fits : ((u : ℕ) → u < length nodes₀ / node-stride → 0 < at (ranks nodes₀) u → at (potentials nodes₀) u + d ≤ potential-limit)
         → 0 < at (ranks nodes) v → at (potentials nodes) v + d ≤ potential-limit
-    move-fits fits r = omega (arith, fits v l (omega (arith, ap (λ (o : List ℕ). at o v) (ranks-kept (m .only)))), m .rest v (le-refl _))
+    move-fits fits r =
+        omega
+        (arith, fits v l (omega (arith, ap (λ (o : List ℕ). at o v) (ranks-kept (m .only)))), m .rest v (le-refl _))
 
     -- one more is moved
-    pub move-next : (new : List ℕ) → Stored 0 v (lift (at (ranks nodes) v) (at (potentials nodes) v) d) nodes new → Moving d nodes₀ new (v + 1)
+    pub move-next : (new : List ℕ) → Stored 0 v (lift (at (ranks nodes) v) (at (potentials nodes) v) d) nodes new
+        → Moving d nodes₀ new (v + 1)
     move-next new s = record {
       v-in = omega arith;
       only = apart-next (m .only) s;
@@ -72,7 +75,9 @@ module _ {d : ℕ} {nodes₀ : List ℕ} where
         a = lift (at (ranks nodes) v) (at (potentials nodes) v) d
 
         other : (k : ℕ) → (k ≡ v → ⊥) → at (potentials new) k ≡ at (potentials nodes) k
-        other k ne = ap (λ (o : List ℕ). at o k) (s .same) ∙ getD-set-other (potentials nodes) v k (lift (at (ranks nodes) v) (at (potentials nodes) v) d) 0 ne
+        other k ne =
+            ap (λ (o : List ℕ). at o k) (s .same)
+            ∙ getD-set-other (potentials nodes) v k (lift (at (ranks nodes) v) (at (potentials nodes) v) d) 0 ne
 
         here : at (potentials new) v ≡ lifted (at (ranks nodes₀)) (at (potentials nodes₀)) d v
         here =

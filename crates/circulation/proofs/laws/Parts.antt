@@ -15,7 +15,8 @@ use lib.ListN.{length, take, drop, length-take, length-drop, length-append, List
 use lib.Seq.{getD-append-add, getD-drop, getD-take, ext-getD}
 
 -- what stands behind the last node is in no column
-column-front : (k : ℕ) (w r : List ℕ) → k < 6 → node-stride * (length w / node-stride) ≡ length w → length r < 6 → column k (w ++ r) ≡ column k w
+column-front : (k : ℕ) (w r : List ℕ) → k < 6 → node-stride * (length w / node-stride) ≡ length w → length r < 6
+    → column k (w ++ r) ≡ column k w
 column-front k w r k-in full short = ext-getD 0 (column k (w ++ r)) (column k w)
     (column-length k (w ++ r) ∙ (same-size ∙ sym (column-length k w)))
     (λ i l. each i (omega (arith, column-length k (w ++ r), same-size)))
@@ -24,7 +25,9 @@ column-front k w r k-in full short = ext-getD 0 (column k (w ++ r)) (column k w)
     same-size = omega (arith, length-append w r)
 
     each : (i : ℕ) → i < length w / node-stride → at (column k (w ++ r)) i ≡ at (column k w) i
-    each i l = column-at k (w ++ r) i (omega (arith, same-size)) ∙ (List·getD-append w r 0 (node-stride * i + k) (omega arith) ∙ sym (column-at k w i l))
+    each i l =
+        column-at k (w ++ r) i (omega (arith, same-size))
+        ∙ (List·getD-append w r 0 (node-stride * i + k) (omega arith) ∙ sym (column-at k w i l))
 
 module _ (nodes₀ : List ℕ) (end : ℕ) (is-end : end ≡ node-stride * size nodes₀) where
   -- how long the front is
@@ -46,11 +49,16 @@ module _ (nodes₀ : List ℕ) (end : ℕ) (is-end : end ≡ node-stride * size 
       (λ i l. each i (omega (arith, column-length 0 (take (end - 0) nodes₀), front-size)))
     where
       each : (i : ℕ) → i < size nodes₀ → at (potentials (take (end - 0) nodes₀)) i ≡ at (potentials nodes₀) i
-      each i l = column-at 0 (take (end - 0) nodes₀) i (omega (arith, front-size)) ∙ (getD-take (end - 0) nodes₀ (node-stride * i + 0) 0 (omega arith) ∙ sym (column-at 0 nodes₀ i l))
+      each i l =
+          column-at 0 (take (end - 0) nodes₀) i (omega (arith, front-size))
+          ∙ (getD-take (end - 0) nodes₀ (node-stride * i + 0) 0 (omega arith) ∙ sym (column-at 0 nodes₀ i l))
 
   -- it is valid where the whole is
-  pub valid-front : {N : Net} → Valid N (size nodes₀) (potentials nodes₀) → Valid N (size (take (end - 0) nodes₀)) (potentials (take (end - 0) nodes₀))
-  valid-front {N} v = subst (λ (n : ℕ). Valid N n (potentials (take (end - 0) nodes₀))) (sym front-size) (subst (λ (p : List ℕ). Valid N (size nodes₀) p) (sym front-potentials) v)
+  pub valid-front : {N : Net} → Valid N (size nodes₀) (potentials nodes₀)
+      → Valid N (size (take (end - 0) nodes₀)) (potentials (take (end - 0) nodes₀))
+  valid-front {N} v =
+      subst (λ (n : ℕ). Valid N n (potentials (take (end - 0) nodes₀))) (sym front-size)
+      (subst (λ (p : List ℕ). Valid N (size nodes₀) p) (sym front-potentials) v)
 
   module _ (w : List ℕ) (same : length w ≡ length (take (end - 0) nodes₀)) where
     -- the front is whole
@@ -62,10 +70,13 @@ module _ (nodes₀ : List ℕ) (end : ℕ) (is-end : end ≡ node-stride * size 
     back-potentials = column-front 0 w (drop end nodes₀) (omega arith) full behind
 
     -- the room is 0, and what is behind is kept
-    cleared : {chains₀ chains : List ℕ} → Zeroed node-stride w → length chains ≡ length chains₀ → ((i : ℕ) → at chains i ≡ 0) → Cleared nodes₀ (w ++ drop end nodes₀) chains₀ chains
+    cleared : {chains₀ chains : List ℕ} → Zeroed node-stride w → length chains ≡ length chains₀
+        → ((i : ℕ) → at chains i ≡ 0) → Cleared nodes₀ (w ++ drop end nodes₀) chains₀ chains
     cleared z chains-same zeros = record {
       nodes-size = omega (arith, length-append w (drop end nodes₀), length-drop end nodes₀, front-length);
-      others = λ v k v-in some k-in. List·getD-append w (drop end nodes₀) 0 (node-stride * v + k) (omega (arith, front-length)) ∙ (sym (column-at k w v (omega (arith, front-length))) ∙ z .zero k v some k-in);
+      others =
+          λ v k v-in some k-in. List·getD-append w (drop end nodes₀) 0 (node-stride * v + k) (omega (arith, front-length))
+          ∙ (sym (column-at k w v (omega (arith, front-length))) ∙ z .zero k v some k-in);
       rest = λ i past. kept i past;
       chains-size = chains-same;
       chains-zero = zeros;

@@ -74,15 +74,26 @@ module _ {N : Net} {s count : ℕ} {x nodes : List ℕ} (g : GrownAt N s count x
     extends = rw (h .potentials-same, h .ranks-set, h .parents-set, h .rooms-set, same-ranks, same-parents, same-rooms) ext;
     length-same = h .length-same ∙ only .length-same;
     needs-same = h .needs-same ∙ only .others 1 (omega arith) (λ e. omega arith);
-    root-room = ap (λ (l : List ℕ). at l s) (h .rooms-set) ∙ (getD-set-other (rooms one) v s r 0 (λ e. ext .v-root (sym e)) ∙ ap (λ (l : List ℕ). at l s) same-rooms);
+    root-room =
+        ap (λ (l : List ℕ). at l s) (h .rooms-set)
+        ∙ (getD-set-other (rooms one) v s r 0 (λ e. ext .v-root (sym e)) ∙ ap (λ (l : List ℕ). at l s) same-rooms);
   }
 
 -- a walk, and the needs of its ends counted
 pub augments : {N : Net} {s t d : ℕ} {x₀ x nodes : List ℕ} (new : List ℕ) → ReachedAt N s t x₀ nodes → Amount s t d (at (needs nodes)) (at (rooms nodes))
     → Walked N s t d (potentials nodes) (needs nodes) x₀ x → ((v : ℕ) → at (needs new) v + pick s v d ≡ at (needs nodes) v + pick t v d) → Apart 1 nodes new → Augments N x nodes new
 augments {N} {s} {t} {d} {x₀} {x} {nodes} new r a w c only = record {
-  state = subst (λ (l : List ℕ). State N l x (needs new)) (sym (only .others 0 (omega arith) (λ e. omega arith))) (augmented (needs new) r a w e-size c);
-  less = omega (arith, at-size (length new / node-stride) (needs new) (omega (arith, column-length 0 nodes, only .length-same)), at-size (length nodes / node-stride) (needs nodes) (column-length 0 nodes), less-left (needs new) r a w e-size c, a .some);
+  state =
+      subst (λ (l : List ℕ). State N l x (needs new)) (sym (only .others 0 (omega arith) (λ e. omega arith)))
+      (augmented (needs new) r a w e-size c);
+  less =
+      omega (
+        arith,
+        at-size (length new / node-stride) (needs new) (omega (arith, column-length 0 nodes, only .length-same)),
+        at-size (length nodes / node-stride) (needs nodes) (column-length 0 nodes),
+        less-left (needs new) r a w e-size c,
+        a .some,
+      );
   length-same = only .length-same;
 }
   where

@@ -90,7 +90,9 @@ search-start {N} {p} {x} {e} {order} {via} {room} s s-in st order-size via-size 
   state = st;
   root-fits = fits;
   size-same = refl;
-  grown = begin-grown p x order via room s s-in (st .wf) (st .x-size) (st .p-in) (st .slack) order-size via-size room-size root alone some;
+  grown =
+      begin-grown p x order via room s s-in (st .wf) (st .x-size) (st .p-in) (st .slack) order-size via-size room-size
+      root alone some;
   full = λ v l r. elim (ℕ-discrete v s) [
     | yes same ↦ omega (arith, ap (at e) same)
     | no ne ↦ absurd (omega (arith, alone v ne))
@@ -99,7 +101,8 @@ search-start {N} {p} {x} {e} {order} {via} {room} s s-in st order-size via-size 
 }
 
 -- while no reached node has anything to spare, some arc crosses
-pub search-crosses : {N : Net} {s count : ℕ} {p₀ p x e order via room : List ℕ} → Searching N s count p₀ p x e order via room → Crossing N (at p) (at x) (at order)
+pub search-crosses : {N : Net} {s count : ℕ} {p₀ p x e order via room : List ℕ}
+    → Searching N s count p₀ p x e order via room → Crossing N (at p) (at x) (at order)
 search-crosses {N} {s} {count} {p₀} {p} {x} {e} {order} g none =
     no-need N (length p) (at p) (at x) (at order) (at e) (g .grown .ready .wf) (g .grown .slack) (rw (g .size-same) (g .state .needs-are)) none
     (g .full) s (g .grown .tree .s-in) (omega (arith, g .grown .tree .root)) (omega (arith, g .root-fits, g .grown .tree .root-room))
@@ -114,7 +117,9 @@ module _ {N : Net} {s count : ℕ} {p₀ p x e order via room p′ order′ via�
 
   -- the rank of v
   here : at order′ v ≡ count + 1
-  here = ap (λ (o : List ℕ). at o v) (m .stored) ∙ getD-set-same order v (count + 1) 0 (omega (arith, m .v-in, g .grown .ready .order-size))
+  here =
+      ap (λ (o : List ℕ). at o v) (m .stored)
+      ∙ getD-set-same order v (count + 1) 0 (omega (arith, m .v-in, g .grown .ready .order-size))
 
   -- who is not reached now was not before
   was-not : (u : ℕ) → at order′ u ≡ 0 → at order u ≡ 0
@@ -178,7 +183,10 @@ module _ {N : Net} {s count : ℕ} {p₀ p x e order via room p′ order′ via�
         where
           reached : u < length p′ → Dec (at order′ u ≡ 0) → at p′ u ≤ rested-limit
           reached u-in (yes z) = m .grown .low u u-in z
-          reached u-in (no ne) = search-top (m .grown .ready .wf .nodes) (m .grown .near) (λ w. omega (arith, m .grown .ranks w, m .grown .rest)) (omega (arith, m .v-in, m .size-same)) (omega (arith, here)) v-low u u-in (omega arith)
+          reached u-in (no ne) =
+              search-top (m .grown .ready .wf .nodes) (m .grown .near)
+              (λ w. omega (arith, m .grown .ranks w, m .grown .rest)) (omega (arith, m .v-in, m .size-same))
+              (omega (arith, here)) v-low u u-in (omega arith)
 
           inside : Dec (u < length p′) → at p′ u ≤ rested-limit
           inside (yes l) = reached l (ℕ-discrete (at order′ u) 0)
@@ -190,17 +198,27 @@ module _ {N : Net} {s count : ℕ} {p₀ p x e order via room p′ order′ via�
         where
           go : Dec (u ≡ v) → Dec (at order′ u ≡ 0) → at p′ u ≤ flow-zero
           go (yes e) z = omega (arith, ap (at p′) e, v-low)
-          go (no ne) (yes z) = omega (arith, kept′ u (omega (arith, m .size-same)) (was-not u z), g .state .calm u (omega (arith, same-size)) few)
+          go (no ne) (yes z) =
+              omega (
+                arith,
+                kept′ u (omega (arith, m .size-same)) (was-not u z),
+                g .state .calm u (omega (arith, same-size)) few,
+              )
           go (no ne) (no r) = absurd (omega (arith, g .full u (omega (arith, m .size-same)) (rank u (omega arith) ne)))
 
 -- no node needs anything: then none has anything to spare
-pub solved : {N : Net} {p x e : List ℕ} → State N p x e → ((v : ℕ) → v < length p → at e v ≤ need-zero) → Slack N (at p) (at x) × Balanced N (length p) (at x)
-solved {N} {p} {x} {e} s none = (s .slack, record { balance = λ v v-in. go v v-in (decLt (outflow N (arcs N) (at x) v) (inflow N (arcs N) (at x) v)) })
+pub solved : {N : Net} {p x e : List ℕ} → State N p x e → ((v : ℕ) → v < length p → at e v ≤ need-zero)
+    → Slack N (at p) (at x) × Balanced N (length p) (at x)
+solved {N} {p} {x} {e} s none = (
+  s .slack,
+  record { balance = λ v v-in. go v v-in (decLt (outflow N (arcs N) (at x) v) (inflow N (arcs N) (at x) v)) },
+)
   where
     low : (v : ℕ) → v < length p → outflow N (arcs N) (at x) v ≤ inflow N (arcs N) (at x) v
     low v v-in = omega (arith, s .needs-are .need v v-in, none v v-in)
 
-    go : (v : ℕ) → v < length p → Dec (outflow N (arcs N) (at x) v < inflow N (arcs N) (at x) v) → inflow N (arcs N) (at x) v ≡ outflow N (arcs N) (at x) v
+    go : (v : ℕ) → v < length p → Dec (outflow N (arcs N) (at x) v < inflow N (arcs N) (at x) v)
+        → inflow N (arcs N) (at x) v ≡ outflow N (arcs N) (at x) v
     go v v-in (yes less) = absurd (omega (
       arith,
       sum-to-lt (length p) (outflow N (arcs N) (at x)) (inflow N (arcs N) (at x)) low v v-in less,

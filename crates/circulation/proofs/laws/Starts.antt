@@ -21,7 +21,8 @@ use Rattle.circulation.specs.Limits.{low-least, high-most}
 use Rattle.circulation.proofs.laws.Counts.{flow-near}
 
 -- a list whose first i elements have P, one more of which is stored
-pub store-more : (P : ℕ → ℕ → Type 0) (x : List ℕ) (i a : ℕ) → i < length x → ((k : ℕ) → k < i → P k (at x k)) → P i a → (k : ℕ) → k < i + 1 → P k (at (set x i a) k)
+pub store-more : (P : ℕ → ℕ → Type 0) (x : List ℕ) (i a : ℕ) → i < length x → ((k : ℕ) → k < i → P k (at x k)) → P i a
+    → (k : ℕ) → k < i + 1 → P k (at (set x i a) k)
 store-more P x i a l done here = below-more _ i (λ k below. subst⁻ k below) (subst (P i) (sym (getD-set-same x i a 0 l)) here)
   where
     subst⁻ : (k : ℕ) → k < i → P k (at (set x i a) k)
@@ -41,8 +42,14 @@ module _ {N : Net} {n : ℕ} (p x : ℕ → ℕ) (wf : WellFormed N n) (met : Fe
       h = wf .arc-in i l .high-in
 
       go : Dec (stands N p i < asks N p i) → Dec (asks N p i < stands N p i) → (low-least ≤ x i) × (x i ≤ high-most)
-      go (yes less) b = (omega (arith, filled i l .left less, k .soft (λ hard. omega (arith, met .not-left i l hard))), omega (arith, filled i l .left less, k .top))
-      go (no nl) (yes more) = (omega (arith, filled i l .right more, h .bottom), omega (arith, filled i l .right more, h .soft (λ hard. omega (arith, met .not-right i l hard))))
+      go (yes less) b = (
+        omega (arith, filled i l .left less, k .soft (λ hard. omega (arith, met .not-left i l hard))),
+        omega (arith, filled i l .left less, k .top),
+      )
+      go (no nl) (yes more) = (
+        omega (arith, filled i l .right more, h .bottom),
+        omega (arith, filled i l .right more, h .soft (λ hard. omega (arith, met .not-right i l hard))),
+      )
       go (no nl) (no nr) = (omega (arith, filled i l .on (omega arith)), omega (arith, filled i l .on (omega arith)))
 
   -- the first flows are in complementary slackness
@@ -55,10 +62,20 @@ module _ {N : Net} {n : ℕ} (p x : ℕ → ℕ) (wf : WellFormed N n) (met : Fe
     right = λ i l less. filled i l .right less;
   }
     where
-      within : (i : ℕ) → i < arcs N → Dec (stands N p i < asks N p i) → Dec (asks N p i < stands N p i) → (low N i ≤ x i) × (x i ≤ high N i)
-      within i l (yes less) b = (omega (arith, filled i l .left less), omega (arith, filled i l .left less, wf .arc-in i l .low-in .top, wf .arc-in i l .high-in .bottom))
-      within i l (no nl) (yes more) = (omega (arith, filled i l .right more, wf .arc-in i l .low-in .top, wf .arc-in i l .high-in .bottom), omega (arith, filled i l .right more))
-      within i l (no nl) (no nr) = (omega (arith, filled i l .on (omega arith), wf .arc-in i l .low-in .top), omega (arith, filled i l .on (omega arith), wf .arc-in i l .high-in .bottom))
+      within : (i : ℕ) → i < arcs N → Dec (stands N p i < asks N p i) → Dec (asks N p i < stands N p i)
+          → (low N i ≤ x i) × (x i ≤ high N i)
+      within i l (yes less) b = (
+        omega (arith, filled i l .left less),
+        omega (arith, filled i l .left less, wf .arc-in i l .low-in .top, wf .arc-in i l .high-in .bottom),
+      )
+      within i l (no nl) (yes more) = (
+        omega (arith, filled i l .right more, wf .arc-in i l .low-in .top, wf .arc-in i l .high-in .bottom),
+        omega (arith, filled i l .right more),
+      )
+      within i l (no nl) (no nr) = (
+        omega (arith, filled i l .on (omega arith), wf .arc-in i l .low-in .top),
+        omega (arith, filled i l .on (omega arith), wf .arc-in i l .high-in .bottom),
+      )
 
   -- little is to be moved: at most 2^24
   pub first-surplus : {e : ℕ → ℕ} → Need N n x e → surplus n e ≤ 16777216
@@ -96,7 +113,8 @@ first-state {N} {n} {p} x e v p-size x-size e-size filled need =
     }
 
 -- a flow to start with, from the numbers read
-pub filled-by : (N : Net) (p : ℕ → ℕ) (i a b l h r : ℕ) → a ≡ stands N p i → b ≡ asks N p i → l ≡ low N i → h ≡ high N i → Filled a b l h r → FilledAt N p i r
+pub filled-by : (N : Net) (p : ℕ → ℕ) (i a b l h r : ℕ) → a ≡ stands N p i → b ≡ asks N p i → l ≡ low N i → h ≡ high N i
+    → Filled a b l h r → FilledAt N p i r
 filled-by N p i a b l h r ea eb el eh f = record {
   left = λ less. f .left (omega arith) ∙ el;
   right = λ less. f .right (omega arith) ∙ eh;
@@ -105,7 +123,8 @@ filled-by N p i a b l h r ea eb el eh f = record {
 
 -- it is at most 2 ^ 29
 pub filled-top : (N : Net) (n : ℕ) (p : ℕ → ℕ) (i y : ℕ) → ArcIn N n i → FilledAt N p i y → y ≤ high-none
-filled-top N n p i y a f = go (decLt (stands N p i) (asks N p i)) (decLt (asks N p i) (stands N p i)) (ℕ-discrete (high N i) high-none)
+filled-top N n p i y a f =
+    go (decLt (stands N p i) (asks N p i)) (decLt (asks N p i) (stands N p i)) (ℕ-discrete (high N i) high-none)
   where
     go : Dec (stands N p i < asks N p i) → Dec (asks N p i < stands N p i) → Dec (high N i ≡ high-none) → y ≤ high-none
     go (yes less) b h = omega (arith, f .left less, a .low-in .top)

@@ -47,7 +47,9 @@ module _ {N : Net} {s count : ℕ} {p x order via room : List ℕ} (g : Grown N 
   module _ (i d : ℕ) (near : Nearest N (arcs N) (at p) (at x) (at order) i) (is-step : d ≡ step N (at p) i) where
     -- the step keeps the potentials small
     pub raise-fits : count < length p → (w : ℕ) → w < length p → 0 < at order w → at p w + d ≤ potential-limit
-    raise-fits few w l r = omega (arith, is-step, raise-top (at x) i (near .0) (g .ready .wf) (g .near) (g .ranks) few (g .low) (near .1) w l r)
+    raise-fits few w l r =
+        omega
+        (arith, is-step, raise-top (at x) i (near .0) (g .ready .wf) (g .near) (g .ranks) few (g .low) (near .1) w l r)
 
     -- the potentials fit after the step
     raised : Slack N (lifted (at order) (at p) d) (at x)
@@ -103,7 +105,8 @@ module _ {N : Net} {s count : ℕ} {p x order via room : List ℕ} (g : Grown N 
       stay u u-in e = m .moved u u-in ∙ lift-out (at order u) (at p u) d e
 
       -- a link of another node is one still
-      keep-link : (w j : ℕ) → (w ≡ v → ⊥) → Link N (at p) (at x) (at order) (at room) w j → Link N (at p′) (at x) (at (set order v (count + 1))) (at (set room v r)) w j
+      keep-link : (w j : ℕ) → (w ≡ v → ⊥) → Link N (at p) (at x) (at order) (at room) w j
+          → Link N (at p′) (at x) (at (set order v (count + 1))) (at (set room v r)) w j
       keep-link w j ne l = record { arc-in = l .arc-in; some = omega (arith, kept-room w ne, l .some); tight = ⊎-elim tight-head tight-tail (l .ends); ends = ⊎-elim (λ e. inl (from-head e)) (λ e. inr (from-tail e)) (l .ends) }
         where
           t : ℕ
@@ -121,19 +124,25 @@ module _ {N : Net} {s count : ℕ} {p x order via room : List ℕ} (g : Grown N 
           both : 0 < at order (head N j) → 0 < at order (tail N j) → asks N (at p′) j ≡ stands N (at p′) j
           both lt lh = omega (arith, l .tight, up (head N j) h-in lt, up (tail N j) t-in lh)
 
-          tight-head : (tail N j ≡ w) × (0 < at order (head N j)) × (at order (head N j) < at order w) × (at x j + at room w ≤ high N j) × (at room w ≤ at room (head N j)) → asks N (at p′) j ≡ stands N (at p′) j
+          tight-head : (tail N j ≡ w) × (0 < at order (head N j)) × (at order (head N j) < at order w) × (at x j + at room w ≤ high N j) × (at room w ≤ at room (head N j))
+              → asks N (at p′) j ≡ stands N (at p′) j
           tight-head e = both (e .1) (omega (arith, ap (at order) (e .0), e .1, e .2))
 
-          tight-tail : (head N j ≡ w) × (0 < at order (tail N j)) × (at order (tail N j) < at order w) × (low N j + at room w ≤ at x j) × (at room w ≤ at room (tail N j)) → asks N (at p′) j ≡ stands N (at p′) j
+          tight-tail : (head N j ≡ w) × (0 < at order (tail N j)) × (at order (tail N j) < at order w) × (low N j + at room w ≤ at x j) × (at room w ≤ at room (tail N j))
+              → asks N (at p′) j ≡ stands N (at p′) j
           tight-tail e = both (omega (arith, ap (at order) (e .0), e .1, e .2)) (e .1)
 
           from-head : (tail N j ≡ w) × (0 < at order (head N j)) × (at order (head N j) < at order w) × (at x j + at room w ≤ high N j) × (at room w ≤ at room (head N j))
               → (tail N j ≡ w) × (0 < at (set order v (count + 1)) (head N j)) × (at (set order v (count + 1)) (head N j) < at (set order v (count + 1)) w) × (at x j + at (set room v r) w ≤ high N j) × (at (set room v r) w ≤ at (set room v r) (head N j))
-          from-head e = rw (kept-rank (head N j) (e .1), kept w ne, kept-room w ne, kept-room (head N j) (not-v (head N j) (e .1))) e
+          from-head e =
+              rw
+              (kept-rank (head N j) (e .1), kept w ne, kept-room w ne, kept-room (head N j) (not-v (head N j) (e .1))) e
 
           from-tail : (head N j ≡ w) × (0 < at order (tail N j)) × (at order (tail N j) < at order w) × (low N j + at room w ≤ at x j) × (at room w ≤ at room (tail N j))
               → (head N j ≡ w) × (0 < at (set order v (count + 1)) (tail N j)) × (at (set order v (count + 1)) (tail N j) < at (set order v (count + 1)) w) × (low N j + at (set room v r) w ≤ at x j) × (at (set room v r) w ≤ at (set room v r) (tail N j))
-          from-tail e = rw (kept-rank (tail N j) (e .1), kept w ne, kept-room w ne, kept-room (tail N j) (not-v (tail N j) (e .1))) e
+          from-tail e =
+              rw
+              (kept-rank (tail N j) (e .1), kept w ne, kept-room w ne, kept-room (tail N j) (not-v (tail N j) (e .1))) e
 
       -- arc i is the link of v
       new-link : Link N (at p′) (at x) (at (set order v (count + 1))) (at (set room v r)) v i
@@ -145,10 +154,12 @@ module _ {N : Net} {s count : ℕ} {p x order via room : List ℕ} (g : Grown N 
           t-in : tail N i < length p
           t-in = g .ready .wf .arc-in i (near .0) .tail-in
 
-          below : (u : ℕ) → 0 < at order u → (0 < at (set order v (count + 1)) u) × (at (set order v (count + 1)) u < at (set order v (count + 1)) v)
+          below : (u : ℕ) → 0 < at order u
+              → (0 < at (set order v (count + 1)) u) × (at (set order v (count + 1)) u < at (set order v (count + 1)) v)
           below u l = (omega (arith, kept-rank u l), omega (arith, kept-rank u l, v-stored, g .ranks u))
 
-          entering : Enters (stands N (at p) i) (asks N (at p) i) (at order (head N i)) (at order (tail N i)) (at x i) (low N i) (high N i) → Link N (at p′) (at x) (at (set order v (count + 1))) (at (set room v r)) v i
+          entering : Enters (stands N (at p) i) (asks N (at p) i) (at order (head N i)) (at order (tail N i)) (at x i) (low N i) (high N i)
+              → Link N (at p′) (at x) (at (set order v (count + 1))) (at (set room v r)) v i
           entering c =
               let b = below (head N i) (c .from) in
               let o = over .up (sym (at-tail (c .from))) (c .room) (room-some (head N i) h-in (c .from)) in
@@ -156,10 +167,18 @@ module _ {N : Net} {s count : ℕ} {p x order via room : List ℕ} (g : Grown N 
                 arc-in = near .0;
                 some = omega (arith, v-room, o .0);
                 tight = omega (arith, is-step, c .slack, up (head N i) h-in (c .from), stay (tail N i) t-in (c .to));
-                ends = inl (sym (at-tail (c .from)), b .0, b .1, omega (arith, v-room, o .1), omega (arith, v-room, o .2, kept-room (head N i) (not-v (head N i) (c .from))));
+                ends =
+                    inl (
+                      sym (at-tail (c .from)),
+                      b .0,
+                      b .1,
+                      omega (arith, v-room, o .1),
+                      omega (arith, v-room, o .2, kept-room (head N i) (not-v (head N i) (c .from))),
+                    );
               }
 
-          leaving : Leaves (stands N (at p) i) (asks N (at p) i) (at order (head N i)) (at order (tail N i)) (at x i) (low N i) (high N i) → Link N (at p′) (at x) (at (set order v (count + 1))) (at (set room v r)) v i
+          leaving : Leaves (stands N (at p) i) (asks N (at p) i) (at order (head N i)) (at order (tail N i)) (at x i) (low N i) (high N i)
+              → Link N (at p′) (at x) (at (set order v (count + 1))) (at (set room v r)) v i
           leaving c =
               let b = below (tail N i) (c .from) in
               let o = over .down (not-v (tail N i) (c .from)) (c .room) (room-some (tail N i) t-in (c .from)) in
@@ -167,11 +186,19 @@ module _ {N : Net} {s count : ℕ} {p x order via room : List ℕ} (g : Grown N 
                 arc-in = near .0;
                 some = omega (arith, v-room, o .0);
                 tight = omega (arith, is-step, c .slack, up (tail N i) t-in (c .from), stay (head N i) h-in (c .to));
-                ends = inr (sym (at-head (c .to)), b .0, b .1, omega (arith, v-room, o .1), omega (arith, v-room, o .2, kept-room (tail N i) (not-v (tail N i) (c .from))));
+                ends =
+                    inr (
+                      sym (at-head (c .to)),
+                      b .0,
+                      b .1,
+                      omega (arith, v-room, o .1),
+                      omega (arith, v-room, o .2, kept-room (tail N i) (not-v (tail N i) (c .from))),
+                    );
               }
 
       -- each reached node has one
-      links′ : (w : ℕ) → w < length p → 0 < at (set order v (count + 1)) w → (w ≡ s → ⊥) → Link N (at p′) (at x) (at (set order v (count + 1))) (at (set room v r)) w (at (set via v i) w)
+      links′ : (w : ℕ) → w < length p → 0 < at (set order v (count + 1)) w → (w ≡ s → ⊥)
+          → Link N (at p′) (at x) (at (set order v (count + 1))) (at (set room v r)) w (at (set via v i) w)
       links′ w w-in reached ne = go (ℕ-discrete w v)
         where
           go : Dec (w ≡ v) → Link N (at p′) (at x) (at (set order v (count + 1))) (at (set room v r)) w (at (set via v i) w)
@@ -203,7 +230,10 @@ module _ {N : Net} {s count : ℕ} {p x order via room : List ℕ} (g : Grown N 
           both : (w : ℕ) → w < length p → 0 < at (set order v (count + 1)) w → Dec (w ≡ v)
               → (at p′ w ≤ at p′ s + kink-zero * at (set order v (count + 1)) w) × (at p′ s ≤ at p′ w + kink-zero * at (set order v (count + 1)) w)
           both w l r (no ne) = old w l r ne
-          both w l r (yes e) = rw e (near-link v i (g .ready .wf) new-link (λ u u-in u-r less. old u u-in u-r (λ same. omega (arith, ap (at (set order v (count + 1))) same))))
+          both w l r (yes e) =
+              rw e
+              (near-link v i (g .ready .wf) new-link
+              (λ u u-in u-r less. old u u-in u-r (λ same. omega (arith, ap (at (set order v (count + 1))) same))))
 
       -- who is not reached has not risen
       low′ : (w : ℕ) → w < length p → at (set order v (count + 1)) w ≡ 0 → at p′ w ≤ rested-limit
@@ -231,8 +261,17 @@ module _ {N : Net} {s count : ℕ} {p x order via room : List ℕ} (g : Grown N 
           via-size = simp length-set (omega (arith, g .via-size));
           room-size = simp length-set (omega (arith, g .room-size));
           slack = same-slack (g .ready .wf) (m .moved) raised;
-          tree = rw size (record { s-in = g .tree .s-in; root = kept-rank s (omega (arith, g .tree .root)) ∙ g .tree .root; root-room = omega (arith, kept-room s (not-v s (omega (arith, g .tree .root))), g .tree .root-room); links = links′ });
-          ranks = λ u. ⊎-elim (λ e. omega (arith, e .1)) (λ e. omega (arith, e .1, g .ranks u)) (at-set order v (count + 1) u (omega (arith, v-in, g .ready .order-size)));
+          tree =
+              rw size
+              (record {
+                s-in = g .tree .s-in;
+                root = kept-rank s (omega (arith, g .tree .root)) ∙ g .tree .root;
+                root-room = omega (arith, kept-room s (not-v s (omega (arith, g .tree .root))), g .tree .root-room);
+                links = links′;
+              });
+          ranks =
+              λ u. ⊎-elim (λ e. omega (arith, e .1)) (λ e. omega (arith, e .1, g .ranks u))
+              (at-set order v (count + 1) u (omega (arith, v-in, g .ready .order-size)));
           rest = rw size rest′;
           near = rw size near′;
           low = rw size low′;

@@ -13,7 +13,8 @@ use Rattle.circulation.specs.laws.Columns.{column-past}
 use Rattle.network.specs.Packed.{high-none, flow-zero}
 
 -- potentials that are small at the nodes are small everywhere
-pub all-small : (nodes : List ℕ) → ((v : ℕ) → v < length nodes / node-stride → at (potentials nodes) v ≤ flow-zero) → First (at (potentials nodes))
+pub all-small : (nodes : List ℕ) → ((v : ℕ) → v < length nodes / node-stride → at (potentials nodes) v ≤ flow-zero)
+    → First (at (potentials nodes))
 all-small nodes b v = go (decLt v (length nodes / node-stride))
   where
     go : Dec (v < length nodes / node-stride) → at (potentials nodes) v ≤ flow-zero

@@ -28,7 +28,8 @@ pick-add u v a b = go (ℕ-discrete u v)
     go (no ne) = omega (arith, pick-no u v (a + b) ne, pick-no u v a ne, pick-no u v b ne)
 
 -- the ends of a link have at most its node's rank
-link-top : {N : Net} {p x order room : ℕ → ℕ} {w j : ℕ} → Link N p x order room w j → (order (tail N j) ≤ order w) × (order (head N j) ≤ order w)
+link-top : {N : Net} {p x order room : ℕ → ℕ} {w j : ℕ} → Link N p x order room w j
+    → (order (tail N j) ≤ order w) × (order (head N j) ≤ order w)
 link-top {N} {p} {x} {order} {room} {w} {j} l = ⊎-elim
     (λ e. (omega (arith, ap order (e .0)), omega (arith, e .2)))
     (λ e. (omega (arith, e .2), omega (arith, ap order (e .0))))
@@ -45,11 +46,13 @@ pub record Walking (N : Net) (s t d : ℕ) (p x₀ e order via room x : List ℕ
   pub v-in : v < length p
   pub v-reached : 0 < at order v
   pub v-room : d ≤ at room v
-  pub moved : (y : ℕ) → y < length p → at e y + inflow N (arcs N) (at x) y + pick t y d ≡ need-zero + outflow N (arcs N) (at x) y + pick v y d
+  pub moved : (y : ℕ) → y < length p
+      → at e y + inflow N (arcs N) (at x) y + pick t y d ≡ need-zero + outflow N (arcs N) (at x) y + pick v y d
 
 module _ {N : Net} {s t d : ℕ} {p x₀ e order via room : List ℕ} where
   -- the walk starts at t
-  pub walk-start : Reached N s t p x₀ e order via room → Amount s t d (at e) (at room) → Walking N s t d p x₀ e order via room x₀ t
+  pub walk-start : Reached N s t p x₀ e order via room → Amount s t d (at e) (at room)
+      → Walking N s t d p x₀ e order via room x₀ t
   walk-start r a = record {
     reached = r;
     amount = a;
@@ -91,8 +94,12 @@ module _ {N : Net} {s t d : ℕ} {p x₀ e order via room : List ℕ} where
       list-room = omega (arith, link .arc-in, wf .room);
       i-x = x-in;
       i-in = omega (arith, link .arc-in, wf .few);
-      up = λ is. ⊎-elim (λ c. omega (arith, c .3, x-same, w .v-room, high-top)) (λ c. absurd (omega (arith, c .2, ap (at order) is))) (link .ends);
-      down = λ ne. ⊎-elim (λ c. absurd (ne (c .0))) (λ c. (omega (arith, c .3, x-same, w .v-room), x-top wf (w .slack) (at via v) (link .arc-in))) (link .ends);
+      up =
+          λ is. ⊎-elim (λ c. omega (arith, c .3, x-same, w .v-room, high-top))
+          (λ c. absurd (omega (arith, c .2, ap (at order) is))) (link .ends);
+      down =
+          λ ne. ⊎-elim (λ c. absurd (ne (c .0)))
+          (λ c. (omega (arith, c .3, x-same, w .v-room), x-top wf (w .slack) (at via v) (link .arc-in))) (link .ends);
     }
       where
         high-top : high N (at via v) ≤ high-none
@@ -112,7 +119,8 @@ module _ {N : Net} {s t d : ℕ} {p x₀ e order via room : List ℕ} where
           ⊎-elim (λ c. omega (arith, ap (at order) (c .0), top .0)) (λ c. omega (arith, ap (at order) (c .0), top .1)) (link .ends)
 
       -- the flow of each arc then
-      stored : (j : ℕ) → ((j ≡ at via v) × (at (set x (at via v) a) j ≡ a)) ⊎ ((j ≡ at via v → ⊥) × (at (set x (at via v) a) j ≡ at x j))
+      stored : (j : ℕ)
+          → ((j ≡ at via v) × (at (set x (at via v) a) j ≡ a)) ⊎ ((j ≡ at via v → ⊥) × (at (set x (at via v) a) j ≡ at x j))
       stored j = at-set x (at via v) a j x-in
 
       -- d is at most what is left to move
@@ -123,8 +131,14 @@ module _ {N : Net} {s t d : ℕ} {p x₀ e order via room : List ℕ} where
       slack′ : Slack N (at p) (at (set x (at via v) a))
       slack′ = record {
         within = λ j l. ⊎-elim (λ c. rw (c .1, c .0) a-fits) (λ c. rw (c .1) (w .slack .within j l)) (stored j);
-        not-full = λ j l hard. ⊎-elim (λ c. omega (arith, c .1, hard, ap (at x₀) (c .0), a-steps .0, most, w .reached .state .spare-high j l hard)) (λ c. omega (arith, c .1, w .slack .not-full j l hard)) (stored j);
-        not-empty = λ j l hard. ⊎-elim (λ c. omega (arith, c .1, hard, ap (at x₀) (c .0), a-steps .1, most, w .reached .state .spare-low j l hard)) (λ c. omega (arith, c .1, w .slack .not-empty j l hard)) (stored j);
+        not-full =
+            λ j l hard. ⊎-elim
+            (λ c. omega (arith, c .1, hard, ap (at x₀) (c .0), a-steps .0, most, w .reached .state .spare-high j l hard))
+            (λ c. omega (arith, c .1, w .slack .not-full j l hard)) (stored j);
+        not-empty =
+            λ j l hard. ⊎-elim
+            (λ c. omega (arith, c .1, hard, ap (at x₀) (c .0), a-steps .1, most, w .reached .state .spare-low j l hard))
+            (λ c. omega (arith, c .1, w .slack .not-empty j l hard)) (stored j);
         left = λ j l less. ⊎-elim (λ c. absurd (tight j (c .0) less)) (λ c. c .1 ∙ w .slack .left j l less) (stored j);
         right = λ j l less. ⊎-elim (λ c. absurd (tight′ j (c .0) less)) (λ c. c .1 ∙ w .slack .right j l less) (stored j);
       }
@@ -142,7 +156,10 @@ module _ {N : Net} {s t d : ℕ} {p x₀ e order via room : List ℕ} where
         amount = w .amount;
         x-size = simp length-set (w .x-size);
         slack = slack′;
-        steps = λ j. ⊎-elim (λ c. (omega (arith, c .1, ap (at x₀) (c .0), a-steps .0), omega (arith, c .1, ap (at x₀) (c .0), a-steps .1))) (λ c. (omega (arith, c .1, w .steps j .0), omega (arith, c .1, w .steps j .1))) (stored j);
+        steps =
+            λ j. ⊎-elim
+            (λ c. (omega (arith, c .1, ap (at x₀) (c .0), a-steps .0), omega (arith, c .1, ap (at x₀) (c .0), a-steps .1)))
+            (λ c. (omega (arith, c .1, w .steps j .0), omega (arith, c .1, w .steps j .1))) (stored j);
         fresh = λ y y-in l ne low. getD-set-other x (at via v) (at via y) a 0 (not-i y y-in l ne low) ∙ w .fresh y y-in l ne (omega arith);
         v-in = u-in;
         v-reached = u-reached;
@@ -161,13 +178,15 @@ module _ {N : Net} {s t d : ℕ} {p x₀ e order via room : List ℕ} where
       heads = flow-set (arcs N) (head N) x (at via v) a y (link .arc-in) x-in
 
     -- the walk goes on over it
-    pub walk-next : (x′ : List ℕ) (u : ℕ) → Pushed N x (at via v) v d x′ u → Walking N s t d p x₀ e order via room x′ u × (at order u < at order v)
+    pub walk-next : (x′ : List ℕ) (u : ℕ) → Pushed N x (at via v) v d x′ u
+        → Walking N s t d p x₀ e order via room x′ u × (at order u < at order v)
     walk-next x′ u m = ⊎-elim up down (link .ends)
       where
         lower : (k : ℕ) → u ≡ k → at order k < at order v → at order u < at order v
         lower k is low = rw is low
 
-        up : (tail N (at via v) ≡ v) × (0 < at order (head N (at via v))) × (at order (head N (at via v)) < at order v) × (at x₀ (at via v) + at room v ≤ high N (at via v)) × (at room v ≤ at room (head N (at via v))) → Walking N s t d p x₀ e order via room x′ u × (at order u < at order v)
+        up : (tail N (at via v) ≡ v) × (0 < at order (head N (at via v))) × (at order (head N (at via v)) < at order v) × (at x₀ (at via v) + at room v ≤ high N (at via v)) × (at room v ≤ at room (head N (at via v)))
+            → Walking N s t d p x₀ e order via room x′ u × (at order u < at order v)
         up c =
             let is = m .up (c .0) .0 in
             let low = lower (head N (at via v)) is (c .2) in
@@ -187,7 +206,8 @@ module _ {N : Net} {s t d : ℕ} {p x₀ e order via room : List ℕ} where
               low,
             )
 
-        down : (head N (at via v) ≡ v) × (0 < at order (tail N (at via v))) × (at order (tail N (at via v)) < at order v) × (low N (at via v) + at room v ≤ at x₀ (at via v)) × (at room v ≤ at room (tail N (at via v))) → Walking N s t d p x₀ e order via room x′ u × (at order u < at order v)
+        down : (head N (at via v) ≡ v) × (0 < at order (tail N (at via v))) × (at order (tail N (at via v)) < at order v) × (low N (at via v) + at room v ≤ at x₀ (at via v)) × (at room v ≤ at room (tail N (at via v)))
+            → Walking N s t d p x₀ e order via room x′ u × (at order u < at order v)
         down c =
             let ne : tail N (at via v) ≡ v → ⊥ = λ h. omega (arith, ap (at order) h, c .2) in
             let is = m .down ne .0 in

@@ -14,7 +14,8 @@ unfolding column
 column-length k nodes = upto-length (length nodes / node-stride) (λ v. at nodes (node-stride * v + k))
 
 -- the number of a node
-pub column-at : (k : ℕ) (nodes : List ℕ) (v : ℕ) → v < length nodes / node-stride → at (column k nodes) v ≡ at nodes (node-stride * v + k)
+pub column-at : (k : ℕ) (nodes : List ℕ) (v : ℕ) → v < length nodes / node-stride
+    → at (column k nodes) v ≡ at nodes (node-stride * v + k)
 unfolding column
 column-at k nodes v l = upto-in 0 (length nodes / node-stride) (λ v. at nodes (node-stride * v + k)) v l
 

@@ -20,7 +20,8 @@ use lib.ListN.{getD}
 use lib.Seq.{ext-getD}
 
 -- stored potentials of the same integers are the same
-potentials-same : (n : ℕ) (p q : ℕ → ℕ) → potentials-of n p ≡ potentials-of n q → p (n - 1) ≡ potential-zero → q (n - 1) ≡ potential-zero → (v : ℕ) → v < n → p v ≡ q v
+potentials-same : (n : ℕ) (p q : ℕ → ℕ) → potentials-of n p ≡ potentials-of n q → p (n - 1) ≡ potential-zero
+    → q (n - 1) ≡ potential-zero → (v : ℕ) → v < n → p v ≡ q v
 potentials-same n p q e g h v l = elim (ℕ-discrete v (n - 1)) [
   | yes last ↦ omega (arith, ap p last, ap q last)
   | no ne ↦ omega (arith, less-parts (p v) potential-zero, less-parts (q v) potential-zero, ap up (same (omega arith)), ap down (same (omega arith)))
@@ -41,15 +42,20 @@ module _ (N : Net) (x₀ nodes₀ chains₀ x nodes chains y other hints : List 
   -- the nodes of two solutions
   solved-nodes : Cleared nodes₀ nodes chains₀ chains → Cleared nodes₀ other chains₀ hints
       → Solution N (size nodes₀) (at x) (at (potentials nodes)) → Solution N (size nodes₀) (at y) (at (potentials other)) → nodes ≡ other
-  solved-nodes c d s t = ext-getD 0 nodes other (c .nodes-size ∙ sym (d .nodes-size)) (λ i l. each i (decLt i (node-stride * size nodes₀)))
+  solved-nodes c d s t =
+      ext-getD 0 nodes other (c .nodes-size ∙ sym (d .nodes-size)) (λ i l. each i (decLt i (node-stride * size nodes₀)))
     where
       potential : (v : ℕ) → v < size nodes₀ → at (potentials nodes) v ≡ at (potentials other) v
       potential v l = potentials-same (size nodes₀) (at (potentials nodes)) (at (potentials other))
           (leftmost-unique (meant N (size nodes₀)) (potentials-of (size nodes₀) (at (potentials nodes))) (potentials-of (size nodes₀) (at (potentials other))) (s .best) (t .best))
           (s .ground) (t .ground) v l
 
-      number : (v k : ℕ) → v < size nodes₀ → k < node-stride → Dec (k ≡ 0) → at nodes (node-stride * v + k) ≡ at other (node-stride * v + k)
-      number v k v-in k-in (yes e) = rw e (sym (column-at 0 nodes v (omega (arith, c .nodes-size))) ∙ (potential v v-in ∙ column-at 0 other v (omega (arith, d .nodes-size))))
+      number : (v k : ℕ) → v < size nodes₀ → k < node-stride → Dec (k ≡ 0)
+          → at nodes (node-stride * v + k) ≡ at other (node-stride * v + k)
+      number v k v-in k-in (yes e) =
+          rw e
+          (sym (column-at 0 nodes v (omega (arith, c .nodes-size)))
+          ∙ (potential v v-in ∙ column-at 0 other v (omega (arith, d .nodes-size))))
       number v k v-in k-in (no ne) = c .others v k v-in (omega arith) k-in ∙ sym (d .others v k v-in (omega arith) k-in)
 
       each : (i : ℕ) → Dec (i < node-stride * size nodes₀) → at nodes i ≡ at other i
@@ -59,7 +65,8 @@ module _ (N : Net) (x₀ nodes₀ chains₀ x nodes chains y other hints : List 
       each i (no past) = c .rest i (omega arith) ∙ sym (d .rest i (omega arith))
 
   -- nodes and chains are the same
-  pub one-end : (r s : Answer) → Means N x₀ nodes₀ chains₀ x nodes chains r → Means N x₀ nodes₀ chains₀ y other hints s → (nodes ≡ other) × (chains ≡ hints)
+  pub one-end : (r s : Answer) → Means N x₀ nodes₀ chains₀ x nodes chains r → Means N x₀ nodes₀ chains₀ y other hints s
+      → (nodes ≡ other) × (chains ≡ hints)
   one-end Solved Solved m k = (
     solved-nodes (m .2) (k .2) (m .3) (k .3),
     ext-getD 0 chains hints (m .2 .chains-size ∙ sym (k .2 .chains-size)) (λ i l. m .2 .chains-zero i ∙ sym (k .2 .chains-zero i)),

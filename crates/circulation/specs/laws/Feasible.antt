@@ -18,8 +18,20 @@ module _ (N : Net) (n : ℕ) (p : ℕ → ℕ) (q : List ℕ) (wf : WellFormed N
   -- what is feasible for the network is on no forbidden side
   pub feasible-stored : NetworkFeasible (meant N n) (integers q) → Feasible N p
   feasible-stored f = record {
-    not-right = λ i l hard. omega (arith, meets i l .not-right hard, same (head N i) (wf .arc-in i l .head-in), same (tail N i) (wf .arc-in i l .tail-in));
-    not-left = λ i l hard. omega (arith, meets i l .not-left hard, same (head N i) (wf .arc-in i l .head-in), same (tail N i) (wf .arc-in i l .tail-in));
+    not-right =
+        λ i l hard. omega (
+          arith,
+          meets i l .not-right hard,
+          same (head N i) (wf .arc-in i l .head-in),
+          same (tail N i) (wf .arc-in i l .tail-in),
+        );
+    not-left =
+        λ i l hard. omega (
+          arith,
+          meets i l .not-left hard,
+          same (head N i) (wf .arc-in i l .head-in),
+          same (tail N i) (wf .arc-in i l .tail-in),
+        );
   }
     where
       meets : (i : ℕ) → i < arcs N → Meets N (at q) i
@@ -30,7 +42,19 @@ module _ (N : Net) (n : ℕ) (p : ℕ → ℕ) (q : List ℕ) (wf : WellFormed N
   stored-feasible size f = record {
     size = length-map q pos ∙ size;
     legals = all-upto (legal (integers q)) (arcs N) (arc-at (N .list)) (λ i l. meets-legal N q i (record {
-      not-right = λ hard. omega (arith, f .not-right i l hard, same (head N i) (wf .arc-in i l .head-in), same (tail N i) (wf .arc-in i l .tail-in));
-      not-left = λ hard. omega (arith, f .not-left i l hard, same (head N i) (wf .arc-in i l .head-in), same (tail N i) (wf .arc-in i l .tail-in));
+      not-right =
+          λ hard. omega (
+            arith,
+            f .not-right i l hard,
+            same (head N i) (wf .arc-in i l .head-in),
+            same (tail N i) (wf .arc-in i l .tail-in),
+          );
+      not-left =
+          λ hard. omega (
+            arith,
+            f .not-left i l hard,
+            same (head N i) (wf .arc-in i l .head-in),
+            same (tail N i) (wf .arc-in i l .tail-in),
+          );
     }));
   }

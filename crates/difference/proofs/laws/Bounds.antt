@@ -35,7 +35,12 @@ module _ {N : Net} {n : ℕ} (wf : WellFormed N n) where
   -- the ground is one of them
   count-ground : (q : ℕ → ℕ) → q (n - 1) ≡ 0 → 1 ≤ count q 0
   unfolding count
-  count-ground q g = omega (arith, upto-within 0 (q (n - 1)) (omega arith), sum-to-ge n (λ u. upto 0 (q u)) (n - 1) (omega (arith, wf .some)))
+  count-ground q g =
+      omega (
+        arith,
+        upto-within 0 (q (n - 1)) (omega arith),
+        sum-to-ge n (λ u. upto 0 (q u)) (n - 1) (omega (arith, wf .some)),
+      )
 
   module _ (q : ℕ → ℕ) (s : Solution N n q) (t : ℕ) where
     -- every value above t lowered by 1
@@ -64,7 +69,11 @@ module _ {N : Net} {n : ℕ} (wf : WellFormed N n) where
         where
           go : Dec (t + kink-size < q u) → t + kink-size < q u
           go (yes more) = more
-          go (no le) = absurd (empty (sum-to-lt n (λ w. upto t (q w)) (λ w. upto (t + kink-size) (q w)) (λ w w-in. upto-mono t kink-size (q w)) u u-in (omega (arith, upto-above t (q u) l, upto-within (t + kink-size) (q u) (omega arith)))))
+          go (no le) =
+              absurd
+              (empty
+              (sum-to-lt n (λ w. upto t (q w)) (λ w. upto (t + kink-size) (q w)) (λ w w-in. upto-mono t kink-size (q w))
+              u u-in (omega (arith, upto-above t (q u) l, upto-within (t + kink-size) (q u) (omega arith)))))
 
       -- it is a solution still
       lower : Solution N n q₁
@@ -80,12 +89,15 @@ module _ {N : Net} {n : ℕ} (wf : WellFormed N n) where
       }
 
   -- up the levels, given what a solution of smaller sum gives
-  climb : (q : ℕ → ℕ) → Solution N n q → ((q′ : ℕ → ℕ) → Solution N n q′ → sum-to n q′ < sum-to n q → Small N n) → (left j : ℕ) → left + j ≡ n → j + 1 ≤ count q (j * kink-size) → Small N n
+  climb : (q : ℕ → ℕ) → Solution N n q → ((q′ : ℕ → ℕ) → Solution N n q′ → sum-to n q′ < sum-to n q → Small N n)
+      → (left j : ℕ) → left + j ≡ n → j + 1 ≤ count q (j * kink-size) → Small N n
   climb q s smaller zero j e c = absurd (omega (arith, count-le q (j * kink-size)))
   climb q s smaller (suc left) j e c =
       go (climb q s smaller left (j + 1) (omega arith)) (decLt (sum-to n (q₁ q s (j * kink-size))) (sum-to n q)) (decLt (count q (j * kink-size)) (count q (j * kink-size + kink-size)))
     where
-      go : (j + 1 + 1 ≤ count q ((j + 1) * kink-size) → Small N n) → Dec (sum-to n (q₁ q s (j * kink-size)) < sum-to n q) → Dec (count q (j * kink-size) < count q (j * kink-size + kink-size)) → Small N n
+      go : (j + 1 + 1 ≤ count q ((j + 1) * kink-size) → Small N n)
+          → Dec (sum-to n (q₁ q s (j * kink-size)) < sum-to n q)
+          → Dec (count q (j * kink-size) < count q (j * kink-size + kink-size)) → Small N n
       go up (no whole) more = record { q = q; solution = s; small = λ u u-in. omega (arith, all-within q s (j * kink-size) whole u u-in) }
       go up (yes less) (no empty) = smaller (q₁ q s (j * kink-size)) (lower q s (j * kink-size) empty) less
       go up (yes less) (yes more) =
@@ -95,7 +107,8 @@ module _ {N : Net} {n : ℕ} (wf : WellFormed N n) where
   -- from any solution to a small one
   shrink : (bound : ℕ) (q : ℕ → ℕ) → sum-to n q ≤ bound → Solution N n q → Small N n
   shrink zero q le s = climb q s (λ q′ s′ less. absurd (omega arith)) n 0 (omega arith) (count-ground q (s .ground))
-  shrink (suc bound) q le s = climb q s (λ q′ s′ less. shrink bound q′ (omega arith) s′) n 0 (omega arith) (count-ground q (s .ground))
+  shrink (suc bound) q le s =
+      climb q s (λ q′ s′ less. shrink bound q′ (omega arith) s′) n 0 (omega arith) (count-ground q (s .ground))
 
   -- a small solution from any
   pub bounded : (q : ℕ → ℕ) → Solution N n q → Small N n

@@ -94,7 +94,8 @@ lowered-cases a b = go (decLt a b)
 pub lowered-meets : (s t x y a b : ℕ) → x + a ≤ y + b → (x ≤ s → t < y → x + a < y + b) → lowered s x + a ≤ lowered t y + b
 lowered-meets s t x y a b m gap = go (lowered-cases s x) (lowered-cases t y)
   where
-    go : ((s < x) × (lowered s x + 1 ≡ x)) ⊎ ((x ≤ s) × (lowered s x ≡ x)) → ((t < y) × (lowered t y + 1 ≡ y)) ⊎ ((y ≤ t) × (lowered t y ≡ y)) → lowered s x + a ≤ lowered t y + b
+    go : ((s < x) × (lowered s x + 1 ≡ x)) ⊎ ((x ≤ s) × (lowered s x ≡ x))
+        → ((t < y) × (lowered t y + 1 ≡ y)) ⊎ ((y ≤ t) × (lowered t y ≡ y)) → lowered s x + a ≤ lowered t y + b
     go (inl f) (inl g) = omega (arith, f .1, g .1)
     go (inl f) (inr g) = omega (arith, f .1, g .1)
     go (inr f) (inr g) = omega (arith, f .1, g .1)

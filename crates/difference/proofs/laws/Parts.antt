@@ -43,8 +43,13 @@ module _ {N : Net} {n : ℕ} {v₀ : List ℕ} (taken : Taken N n v₀) (w : Lis
   solves : Least N n w → Solves N n (w ++ drop n v₀)
   solves least = record {
     ground = List·getD-append w (drop n v₀) 0 (n - 1) (omega (arith, size, part-size, taken .wf .some)) ∙ least .solves .ground;
-    small = λ u u-in. let e = List·getD-append w (drop n v₀) 0 u (omega (arith, size, part-size)) in omega (arith, e, least .small u u-in);
-    lowest = subst (λ (p : List ℕ). Lowest (meant N n) p) (sym (take-append-le (n - 1) w (drop n v₀) (omega (arith, size, part-size)))) (least-lowest (taken .wf) w (size ∙ part-size) least);
+    small =
+        λ u u-in. let e = List·getD-append w (drop n v₀) 0 u (omega (arith, size, part-size)) in omega
+        (arith, e, least .small u u-in);
+    lowest =
+        subst (λ (p : List ℕ). Lowest (meant N n) p)
+        (sym (take-append-le (n - 1) w (drop n v₀) (omega (arith, size, part-size))))
+        (least-lowest (taken .wf) w (size ∙ part-size) least);
   }
 
   -- the answer where the passes found a solution
@@ -58,7 +63,8 @@ module _ {N : Net} {n : ℕ} {v₀ : List ℕ} (taken : Taken N n v₀) (w : Lis
   cleared none = record { zero = λ u u-in. List·getD-append w (drop n v₀) 0 u (omega (arith, size, part-size)) ∙ none .1 u }
 
   -- the answer where they found none
-  pub none-back : (r : Bool) → r ≡ false → Ran N (length (take (n - 0) v₀)) w r → Means N n v₀ (w ++ postOf 0 (n - 0) v₀) NoSolution
+  pub none-back : (r : Bool) → r ≡ false → Ran N (length (take (n - 0) v₀)) w r
+      → Means N n v₀ (w ++ postOf 0 (n - 0) v₀) NoSolution
   none-back r e m =
       let none : None N n × ((u : ℕ) → at w u ≡ 0) = rw (e, part-size) at m in
       rw put-back (taken, rest-kept n w v₀ (size ∙ part-size) (taken .values-room), cleared none, none-feasible (taken .wf) (none .0))

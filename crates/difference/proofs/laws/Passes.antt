@@ -61,7 +61,8 @@ met-mono : (N : Net) (i : ℕ) → Monotone (Met N i)
 met-mono N i = record { mono = λ less more m. (high-mono N i .mono less more (m .0), low-mono N i .mono less more (m .1)) }
 
 -- both constraints of an arc
-pub arc-raised : {N : Net} (i : ℕ) {v₀ v₁ v₂ : List ℕ} (r₁ r₂ r : Found) → Stepped (MetHigh N i) N v₀ v₁ r₁ → Stepped (MetLow N i) N v₁ v₂ r₂ → r ≡ join r₁ r₂ → Stepped (Met N i) N v₀ v₂ r
+pub arc-raised : {N : Net} (i : ℕ) {v₀ v₁ v₂ : List ℕ} (r₁ r₂ r : Found) → Stepped (MetHigh N i) N v₀ v₁ r₁
+    → Stepped (MetLow N i) N v₁ v₂ r₂ → r ≡ join r₁ r₂ → Stepped (Met N i) N v₀ v₂ r
 arc-raised {N} i r₁ r₂ r s t e = rw e (joined (high-mono N i) (low-mono N i) r₁ r₂ s t)
 
 -- the constraints of the first i arcs that a pass comes to
@@ -86,7 +87,10 @@ pub goes-on : {N : Net} {back : Bool} {v₀ v : List ℕ} {found : Found} {i : �
     → (v′ : List ℕ) (step found′ : Found) → Stepped (Met N arc) N v v′ step → found′ ≡ join found step → Passing N back v₀ v′ found′ (i + 1)
 goes-on {N} {back} {v₀} {v} {found} {i} p l arc ea v′ step found′ s ef = record {
   in-list = omega arith;
-  stepped = rw ef (stepped-map (λ m. below-more _ i (m .0) (m .1)) (join found step) (joined (done-mono N back i) (met-mono N (turn (arcs N) i back)) found step (p .stepped) (rw ea at s)));
+  stepped =
+      rw ef
+      (stepped-map (λ m. below-more _ i (m .0) (m .1)) (join found step)
+      (joined (done-mono N back i) (met-mono N (turn (arcs N) i back)) found step (p .stepped) (rw ea at s)));
 }
 
 -- every arc has its turn
@@ -97,7 +101,8 @@ turn-back N true f g d i l =
 turn-back N false f g d i l = d i l
 
 -- after the last arc
-pub whole : {N : Net} {back : Bool} {v₀ v : List ℕ} {found : Found} {i : ℕ} → Passing N back v₀ v found i → arcs N ≤ i → Stepped (AllMet N) N v₀ v found
+pub whole : {N : Net} {back : Bool} {v₀ v : List ℕ} {found : Found} {i : ℕ} → Passing N back v₀ v found i → arcs N ≤ i
+    → Stepped (AllMet N) N v₀ v found
 whole {N} {back} {v₀} {v} {found} {i} p past =
     let e : i ≡ arcs N = omega (arith, p .in-list) in
     stepped-map (turn-back N back (at v₀) (at v)) found (subst (λ (k : ℕ). Stepped (Done N back k) N v₀ v found) e (p .stepped))

@@ -33,7 +33,12 @@ agree-le n v q = omega (arith, sum-to-le n (λ u. same (v u) (q u)) (λ u. 1) (�
 -- the ground is one of them
 ground-agrees : (v : List ℕ) (q : ℕ → ℕ) → 0 < length v → at v (length v - 1) ≡ q (length v - 1) → 1 ≤ agree (length v) (at v) q
 unfolding agree
-ground-agrees v q some e = omega (arith, same-yes (at v (length v - 1)) (q (length v - 1)) e, sum-to-ge (length v) (λ u. same (at v u) (q u)) (length v - 1) (omega arith))
+ground-agrees v q some e =
+    omega (
+      arith,
+      same-yes (at v (length v - 1)) (q (length v - 1)) e,
+      sum-to-ge (length v) (λ u. same (at v u) (q u)) (length v - 1) (omega arith),
+    )
 
 -- some solution q agrees with v at k nodes or more
 pub record Near (N : Net) (n : ℕ) (v : ℕ → ℕ) (k : ℕ) : Type 0 where
@@ -61,7 +66,8 @@ module _ {N : Net} {v v′ : List ℕ} (r : Ready N v) (risen : Risen N v v′) 
     q₁-le u u-in = ⊎-elim (λ w. omega (arith, w .1)) (λ w. omega (arith, w .1)) (cases u)
 
     -- a node that agrees with q has done so before the pass, which then raised the other end as far as that asked
-    forced : (from to a b : ℕ) → from < length v → at v from + a ≤ at v′ to + b → q from ≤ at v′ from → at v′ to < q to → q from + a < q to + b
+    forced : (from to a b : ℕ) → from < length v → at v from + a ≤ at v′ to + b → q from ≤ at v′ from → at v′ to < q to
+        → q from + a < q to + b
     forced from to a b from-in met le less = omega (arith, none-joins from from-in (omega (arith, after q s from from-in)), met)
 
     -- it is a solution still
@@ -84,11 +90,15 @@ module _ {N : Net} {v v′ : List ℕ} (r : Ready N v) (risen : Risen N v v′) 
     -- so as many agree
     count₁ : agree (length v) (at v) q ≤ agree (length v) (at v) q₁
     unfolding agree
-    count₁ = sum-to-le (length v) (λ u. same (at v u) (q u)) (λ u. same (at v u) (q₁ u)) (λ u u-in. same-mono (at v u) (q u) (at v u) (q₁ u) (stays u u-in))
+    count₁ =
+        sum-to-le (length v) (λ u. same (at v u) (q u)) (λ u. same (at v u) (q₁ u))
+        (λ u u-in. same-mono (at v u) (q u) (at v u) (q₁ u) (stays u u-in))
 
     -- its sum is smaller, since a value rose
     smaller : sum-to (length v) q₁ < sum-to (length v) q
-    smaller = sum-to-lt (length v) q₁ q q₁-le (grew .node) (grew .node-in) (⊎-elim (λ w. omega (arith, w .1)) (λ w. absurd (raised w)) (cases (grew .node)))
+    smaller =
+        sum-to-lt (length v) q₁ q q₁-le (grew .node) (grew .node-in)
+        (⊎-elim (λ w. omega (arith, w .1)) (λ w. absurd (raised w)) (cases (grew .node)))
       where
         raised : (q (grew .node) ≤ at v′ (grew .node)) × (q₁ (grew .node) ≡ q (grew .node)) → ⊥
         raised w =
@@ -100,7 +110,8 @@ module _ {N : Net} {v v′ : List ℕ} (r : Ready N v) (risen : Risen N v v′) 
   kept q s u u-in e = omega (arith, risen .up u, after q s u u-in)
 
   -- where no more agree, none has joined
-  joins : (q : ℕ → ℕ) → Solution N (length v) q → (agree (length v) (at v) q < agree (length v) (at v′) q → ⊥) → (u : ℕ) → u < length v → at v′ u ≡ q u → at v u ≡ q u
+  joins : (q : ℕ → ℕ) → Solution N (length v) q → (agree (length v) (at v) q < agree (length v) (at v′) q → ⊥) → (u : ℕ)
+      → u < length v → at v′ u ≡ q u → at v u ≡ q u
   unfolding agree
   joins q s no-more u u-in e = go (ℕ-discrete (at v u) (q u))
     where
@@ -122,7 +133,8 @@ module _ {N : Net} {v v′ : List ℕ} (r : Ready N v) (risen : Risen N v v′) 
           smaller-gives (q₁ q s none) (lower q s none) (omega (arith, count₁ q s none)) (smaller q s none)
 
   -- by induction on the sum
-  descend : (bound k : ℕ) (q : ℕ → ℕ) → sum-to (length v) q ≤ bound → Solution N (length v) q → k ≤ agree (length v) (at v) q → Near N (length v) (at v′) (k + 1)
+  descend : (bound k : ℕ) (q : ℕ → ℕ) → sum-to (length v) q ≤ bound → Solution N (length v) q
+      → k ≤ agree (length v) (at v) q → Near N (length v) (at v′) (k + 1)
   descend zero k q small s c = nearer k q s c (λ q′ s′ c′ less. absurd (omega arith))
   descend (suc bound) k q small s c = nearer k q s c (λ q′ s′ c′ less. descend bound k q′ (omega arith) s′ c′)
 
@@ -142,7 +154,12 @@ module _ {N : Net} {n : ℕ} where
   begins v size wf zeros = record {
     ready = record { wf = rw size wf; ground = zeros (length v - 1); small = λ u. omega (arith, zeros u); under = λ q s u u-in. omega (arith, zeros u) };
     size = size;
-    near = λ q s. record { q = q; solution = s; count = ground-agrees v q (rw size (wf .some)) (omega (arith, zeros (length v - 1), s .ground)) };
+    near =
+        λ q s. record {
+          q = q;
+          solution = s;
+          count = ground-agrees v q (rw size (wf .some)) (omega (arith, zeros (length v - 1), s .ground));
+        };
   }
 
   module _ {v : List ℕ} {k : ℕ} (r : Running N n v k) (v′ : List ℕ) where
@@ -159,7 +176,9 @@ module _ {N : Net} {n : ℕ} where
     solved s = rw (← r .size, s .told .0) (record {
       solves = met;
       least = r .ready .under;
-      small = λ u u-in. let d = bounded (r .ready .wf) (at v) met in omega (arith, d .small u u-in, r .ready .under (d .q) (d .solution) u u-in);
+      small =
+          λ u u-in. let d = bounded (r .ready .wf) (at v) met in omega
+          (arith, d .small u u-in, r .ready .under (d .q) (d .solution) u u-in);
     })
       where
         met : Solution N (length v) (at v)

@@ -29,7 +29,8 @@ nothing r m = record { risen = risen-same r; told = (refl, m) }
 module _ {N : Net} {v : List ℕ} (r : Ready N v) (from to a b : ℕ) (from-in : from < length v) (to-in : to < length v)
     (asks : (q : ℕ → ℕ) → Solution N (length v) q → q from + a ≤ q to + b) where
   -- the values with `to` raised
-  raised : at v to + b < at v from + a → to + 1 < length v → at v from + a ≤ value-limit + b → Risen N v (set v to (at v from + a - b))
+  raised : at v to + b < at v from + a → to + 1 < length v → at v from + a ≤ value-limit + b
+      → Risen N v (set v to (at v from + a - b))
   raised more inner top = record {
     ready = record {
       wf = rw length-set (r .wf);
@@ -47,7 +48,9 @@ module _ {N : Net} {v : List ℕ} (r : Ready N v) (from to a b : ℕ) (from-in :
       stored : (u : ℕ) → ((u ≡ to) × (at (set v to x) u ≡ x)) ⊎ ((u ≡ to → ⊥) × (at (set v to x) u ≡ at v u))
       stored u = at-set v to x u to-in
 
-      under : (q : ℕ → ℕ) → Solution N (length v) q → (u : ℕ) → u < length v → ((u ≡ to) × (at (set v to x) u ≡ x)) ⊎ ((u ≡ to → ⊥) × (at (set v to x) u ≡ at v u)) → at (set v to x) u ≤ q u
+      under : (q : ℕ → ℕ) → Solution N (length v) q → (u : ℕ) → u < length v
+          → ((u ≡ to) × (at (set v to x) u ≡ x)) ⊎ ((u ≡ to → ⊥) × (at (set v to x) u ≡ at v u))
+          → at (set v to x) u ≤ q u
       under q s u u-in (inl e) = omega (arith, e .1, ap q (e .0), asks q s, r .under q s from from-in)
       under q s u u-in (inr e) = omega (arith, e .1, r .under q s u u-in)
 
@@ -82,7 +85,8 @@ pub risen-trans : {N : Net} {v₀ v₁ v₂ : List ℕ} → Risen N v₀ v₁ �
 risen-trans s t = record { ready = t .ready; size = t .size ∙ s .size; up = λ u. omega (arith, s .up u, t .up u) }
 
 -- a step over other constraints that follow
-pub stepped-map : {M M′ : (ℕ → ℕ) → (ℕ → ℕ) → Type 0} {N : Net} {v₀ v : List ℕ} → (M (at v₀) (at v) → M′ (at v₀) (at v)) → (r : Found) → Stepped M N v₀ v r → Stepped M′ N v₀ v r
+pub stepped-map : {M M′ : (ℕ → ℕ) → (ℕ → ℕ) → Type 0} {N : Net} {v₀ v : List ℕ} → (M (at v₀) (at v) → M′ (at v₀) (at v))
+    → (r : Found) → Stepped M N v₀ v r → Stepped M′ N v₀ v r
 stepped-map f Same s = record { risen = s .risen; told = (s .told .0, f (s .told .1)) }
 stepped-map f Changed s = record { risen = s .risen; told = (s .told .0, f (s .told .1)) }
 stepped-map f Stuck s = record { risen = s .risen; told = s .told }
@@ -97,7 +101,8 @@ grew-after g t = record { node = g .node; node-in = g .node-in; rose = omega (ar
 
 module _ {M M′ : (ℕ → ℕ) → (ℕ → ℕ) → Type 0} {N : Net} {v₀ v₁ v₂ : List ℕ} (m : Monotone M) (m′ : Monotone M′) where
   -- what two steps tell together
-  pub joined : (r₁ r₂ : Found) → Stepped M N v₀ v₁ r₁ → Stepped M′ N v₁ v₂ r₂ → Stepped (λ f g. M f g × M′ f g) N v₀ v₂ (join r₁ r₂)
+  pub joined : (r₁ r₂ : Found) → Stepped M N v₀ v₁ r₁ → Stepped M′ N v₁ v₂ r₂
+      → Stepped (λ f g. M f g × M′ f g) N v₀ v₂ (join r₁ r₂)
   joined r₁ r₂ s t = record { risen = risen-trans (s .risen) (t .risen); told = tells r₁ r₂ (s .told) (t .told) }
     where
       later : M (at v₀) (at v₁) → M (at v₀) (at v₂)

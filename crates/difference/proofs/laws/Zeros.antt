@@ -10,7 +10,8 @@ use lib.Seq.{getD-set-same, getD-set-other}
 use Rattle.network.specs.Net.{at}
 
 -- one more element is 0
-pub zeros-more : (v : List ℕ) (i : ℕ) → i < length v → ((k : ℕ) → k < i → getD v k 0 ≡ 0) → (k : ℕ) → k < i + 1 → getD (set v i 0) k 0 ≡ 0
+pub zeros-more : (v : List ℕ) (i : ℕ) → i < length v → ((k : ℕ) → k < i → getD v k 0 ≡ 0) → (k : ℕ) → k < i + 1
+    → getD (set v i 0) k 0 ≡ 0
 zeros-more v i l z = below-more _ i (λ k below. getD-set-other v i k 0 0 (omega arith) ∙ z k below) (getD-set-same v i 0 0 l)
 
 -- every element is 0

@@ -23,7 +23,9 @@ module _ {N : Net} {n : ℕ} (wf : WellFormed N n) where
   feasible-solution q f =
       record {
         ground = List·getD-eq-default q 0 (omega (arith, f .size, length-map q pos));
-        meets = λ i l. let m = legal-meets N q i (upto-all (legal (integers q)) (arcs N) (arc-at (N .list)) (f .legals) i l) in (m .not-right, m .not-left);
+        meets =
+            λ i l. let m = legal-meets N q i (upto-all (legal (integers q)) (arcs N) (arc-at (N .list)) (f .legals) i l) in
+            (m .not-right, m .not-left);
       }
 
   -- values that meet the constraints are feasible potentials
@@ -31,7 +33,9 @@ module _ {N : Net} {n : ℕ} (wf : WellFormed N n) where
   meets-feasible p size m =
       record {
         size = length-map p pos ∙ size;
-        legals = all-upto (legal (integers p)) (arcs N) (arc-at (N .list)) (λ i l. meets-legal N p i (record { not-right = m i l .0; not-left = m i l .1 }));
+        legals =
+            all-upto (legal (integers p)) (arcs N) (arc-at (N .list))
+            (λ i l. meets-legal N p i (record { not-right = m i l .0; not-left = m i l .1 }));
       }
 
   module _ (w : List ℕ) (size : length w ≡ n) (least : Least N n w) where
@@ -44,7 +48,9 @@ module _ {N : Net} {n : ℕ} (wf : WellFormed N n) where
     same u u-in = go (ℕ-discrete u (n - 1))
       where
         go : Dec (u ≡ n - 1) → at (take (n - 1) w) u ≡ at w u
-        go (yes e) = List·getD-eq-default (take (n - 1) w) 0 (omega (arith, taken-size)) ∙ sym (ap (at w) e ∙ least .solves .ground)
+        go (yes e) =
+            List·getD-eq-default (take (n - 1) w) 0 (omega (arith, taken-size))
+            ∙ sym (ap (at w) e ∙ least .solves .ground)
         go (no ne) = getD-take (n - 1) w u 0 (omega arith)
 
     -- so the constraints are met without it

@@ -38,7 +38,9 @@ high-near (limit (negsuc n)) = false
 
 -- an arc between n nodes, with ground, within the limits
 abbrev pub near : ℕ → Arc → Bool
-near n a = (ltb (a .tail) n && ltb (a .head) n) && (ltb (natAbs (a .kink)) kink-zero && (low-near (a .low) && high-near (a .high)))
+near n a =
+    (ltb (a .tail) n && ltb (a .head) n) &&
+    (ltb (natAbs (a .kink)) kink-zero && (low-near (a .low) && high-near (a .high)))
 
 -- the parts of the test
 pub record Near (n : ℕ) (a : Arc) : Type 0 where
@@ -102,8 +104,11 @@ bound-near n u v k a b h = parts-near n (upper-bound u v k) (record { tail = a; 
 
 -- the arc of an edge between nodes
 edge-near : (n kind u v : ℕ) → u < n → v < n → T (near n (edge-arc-between kind u v))
-edge-near n zero u v a b = parts-near n (edge-arc-between 0 u v) (record { tail = a; head = b; kink = omega arith; low = tt; high = tt })
-edge-near n (suc kind) u v a b = parts-near n (edge-arc-between (suc kind) u v) (record { tail = a; head = b; kink = omega arith; low = tt; high = tt })
+edge-near n zero u v a b =
+    parts-near n (edge-arc-between 0 u v) (record { tail = a; head = b; kink = omega arith; low = tt; high = tt })
+edge-near n (suc kind) u v a b =
+    parts-near n (edge-arc-between (suc kind) u v)
+    (record { tail = a; head = b; kink = omega arith; low = tt; high = tt })
 
 -- the arc of a proper edge
 proper-near : (n : ℕ) (e : Edge) → T (proper-edge n e) → T (near (n + 1) (edge-arc e))
@@ -117,7 +122,8 @@ proper-near n e t =
 
 -- the arc of a small maximum separation
 maximum-near : (n maximum v : ℕ) → suc v < n → maximum < kink-zero → T (near n (maximum-arc maximum v))
-maximum-near n zero v a h = parts-near n (maximum-arc 0 v) (record { tail = omega arith; head = a; kink = omega arith; low = tt; high = tt })
+maximum-near n zero v a h =
+    parts-near n (maximum-arc 0 v) (record { tail = omega arith; head = a; kink = omega arith; low = tt; high = tt })
 maximum-near n (suc maximum) v a h = bound-near n v (suc v) (pos (suc maximum)) (omega arith) a h
 
 -- the arcs of a proper pair
@@ -139,7 +145,8 @@ pair-near n x t =
     (and-both (near (n + 1) other) (all (near (n + 1)) []) (maximum-near (n + 1) (x .maximum) (x .left) (omega arith) (omega arith)) tt)
 
 -- the arcs of a layer of proper pairs
-layer-near : (width n : ℕ) (l : Layer) → width < kink-zero → l .first + length (l .pairs) ≤ n → T (all (proper-pair n) (l .pairs)) → T (all (near (n + 1)) (layer-arcs width n l))
+layer-near : (width n : ℕ) (l : Layer) → width < kink-zero → l .first + length (l .pairs) ≤ n
+    → T (all (proper-pair n) (l .pairs)) → T (all (near (n + 1)) (layer-arcs width n l))
 layer-near width n l h k t =
     let left : Arc = upper-bound (l .first) n (pos 0) in
     let right : Arc = upper-bound n (l .first + length (l .pairs)) (pos width) in

@@ -50,7 +50,8 @@ le-upper-bound u v k (negsuc n) h = tt
 
 module _ (p : List ℕ) (u v : ℕ) where
   -- how far an arc from u to v is past its kink, as an equation of natural numbers
-  pub past-kink-parts : (k : ℤ) → up (past-kink (integers p) (upper-bound u v k)) + (coordinate p u + up k) ≡ down (past-kink (integers p) (upper-bound u v k)) + (coordinate p v + down k)
+  pub past-kink-parts : (k : ℤ)
+      → up (past-kink (integers p) (upper-bound u v k)) + (coordinate p u + up k) ≡ down (past-kink (integers p) (upper-bound u v k)) + (coordinate p v + down k)
   past-kink-parts k = omega (
     arith,
     sum-parts (potential (integers p) v -ℤ potential (integers p) u) (negℤ k),
@@ -68,16 +69,20 @@ module _ (p : List ℕ) (u v : ℕ) where
   -- a legal upper bound bounds its head's coordinate by its tail's
   upper-bound-coordinate : (k : ℤ) → T (legal (integers p) (upper-bound u v k)) → coordinate p v + down k ≤ coordinate p u + up k
   unfolding up down
-  upper-bound-coordinate k t = omega (arith, past-kink-parts k, le-parts (upper-bound-le u v k (past-kink (integers p) (upper-bound u v k)) t))
+  upper-bound-coordinate k t =
+      omega (arith, past-kink-parts k, le-parts (upper-bound-le u v k (past-kink (integers p) (upper-bound u v k)) t))
 
   -- and an upper bound that the coordinates meet is legal
   coordinate-upper-bound : (k : ℤ) → coordinate p v + down k ≤ coordinate p u + up k → T (legal (integers p) (upper-bound u v k))
   unfolding up down
-  coordinate-upper-bound k h = le-upper-bound u v k (past-kink (integers p) (upper-bound u v k)) (parts-le (past-kink (integers p) (upper-bound u v k)) (pos 0) (omega (arith, past-kink-parts k)))
+  coordinate-upper-bound k h =
+      le-upper-bound u v k (past-kink (integers p) (upper-bound u v k))
+      (parts-le (past-kink (integers p) (upper-bound u v k)) (pos 0) (omega (arith, past-kink-parts k)))
 
 module _ (p : List ℕ) where
   -- the arc of a minimum separation tests the minimum
-  minimum-is : (x : Pair) → legal (integers p) (minimum-arc x) ≡ leb (coordinate p (x .left) + x .minimum) (coordinate p (suc (x .left)))
+  minimum-is : (x : Pair)
+      → legal (integers p) (minimum-arc x) ≡ leb (coordinate p (x .left) + x .minimum) (coordinate p (suc (x .left)))
   unfolding up down
   minimum-is x = test-ext (legal (integers p) (minimum-arc x)) (leb (coordinate p (x .left) + x .minimum) (coordinate p (suc (x .left))))
       (λ t. le→leb (coordinate p (x .left) + x .minimum) (coordinate p (suc (x .left)))
@@ -86,7 +91,8 @@ module _ (p : List ℕ) where
       (omega (arith, leb→le (coordinate p (x .left) + x .minimum) (coordinate p (suc (x .left))) t, up-neg (pos (x .minimum)), down-neg (pos (x .minimum)))))
 
   -- the arc of a maximum separation tests the maximum, where one is set
-  maximum-is : (maximum v : ℕ) → legal (integers p) (maximum-arc maximum v) ≡ within-maximum maximum (coordinate p v) (coordinate p (suc v))
+  maximum-is : (maximum v : ℕ)
+      → legal (integers p) (maximum-arc maximum v) ≡ within-maximum maximum (coordinate p v) (coordinate p (suc v))
   unfolding up down
   maximum-is zero v = free (past-kink (integers p) (maximum-arc 0 v))
     where
@@ -101,7 +107,9 @@ module _ (p : List ℕ) where
 
   -- the two arcs of a pair test its separations
   separation-is : (x : Pair) → all (legal (integers p)) (separation-arcs x) ≡ separated p x
-  separation-is x = ap₂ _&&_ (minimum-is x) (and-true (legal (integers p) (maximum-arc (x .maximum) (x .left))) ∙ maximum-is (x .maximum) (x .left))
+  separation-is x =
+      ap₂ _&&_ (minimum-is x)
+      (and-true (legal (integers p) (maximum-arc (x .maximum) (x .left))) ∙ maximum-is (x .maximum) (x .left))
 
   -- the arc of an edge tests whether a straight edge is straight
   pub edge-is : (kind u v : ℕ) → legal (integers p) (edge-arc-between kind u v) ≡ aligned kind (coordinate p u) (coordinate p v)
@@ -134,7 +142,9 @@ module _ (p : List ℕ) where
     -- a left boundary is always legal, as no coordinate is below 0
     left-boundary : (v : ℕ) → legal (integers p) (upper-bound v ground (pos 0)) ≡ true
     unfolding up down
-    left-boundary v = test-ext (legal (integers p) (upper-bound v ground (pos 0))) true (λ t. tt) (λ t. coordinate-upper-bound p v ground (pos 0) (omega arith))
+    left-boundary v =
+        test-ext (legal (integers p) (upper-bound v ground (pos 0))) true (λ t. tt)
+        (λ t. coordinate-upper-bound p v ground (pos 0) (omega arith))
 
     -- a right boundary tests whether a coordinate is within the width
     right-boundary : (v : ℕ) → legal (integers p) (upper-bound ground v (pos width)) ≡ leb (coordinate p v) width
@@ -144,7 +154,8 @@ module _ (p : List ℕ) where
         (λ t. coordinate-upper-bound p ground v (pos width) (omega (arith, leb→le (coordinate p v) width t)))
 
     -- the arcs of a layer test its separations, and whether its last node is within the width
-    pub layer-is : (l : Layer) → all (legal (integers p)) (layer-arcs width ground l) ≡ (all (separated p) (l .pairs) && leb (coordinate p (l .first + length (l .pairs))) width)
+    pub layer-is : (l : Layer)
+        → all (legal (integers p)) (layer-arcs width ground l) ≡ (all (separated p) (l .pairs) && leb (coordinate p (l .first + length (l .pairs))) width)
     layer-is l =
         ap₂ _&&_ (left-boundary (l .first))
         (all-append (legal (integers p)) (flatMap separation-arcs (l .pairs)) (upper-bound ground (l .first + length (l .pairs)) (pos width) ∷ [])
@@ -155,7 +166,10 @@ module _ (p : List ℕ) where
   pub edge-cost : (kind u v : ℕ) → T (aligned kind (coordinate p u) (coordinate p v))
       → cost (integers p) (edge-arc-between kind u v) ≡ pos ((coordinate p v - coordinate p u) + (coordinate p u - coordinate p v))
   unfolding up down
-  edge-cost zero u v t = plain (past-kink (integers p) (edge-arc-between 0 u v)) ∙ ap pos (omega (arith, past-kink-parts p u v (pos 0), min-parts (past-kink (integers p) (edge-arc-between 0 u v))))
+  edge-cost zero u v t =
+      plain (past-kink (integers p) (edge-arc-between 0 u v))
+      ∙ ap pos
+      (omega (arith, past-kink-parts p u v (pos 0), min-parts (past-kink (integers p) (edge-arc-between 0 u v))))
     where
       -- a plain edge's arc costs its distance from the kink
       plain : (d : ℤ) → cost-at (edge-arc-between 0 u v) d ≡ pos (up d + down d)
@@ -174,7 +188,9 @@ module _ (p : List ℕ) where
       -- that of the maximum separation, set or not
       maximum-cost : (maximum : ℕ) → cost (integers p) (maximum-arc maximum (x .left)) ≡ pos 0
       maximum-cost zero = costless (maximum-arc 0 (x .left)) refl refl (past-kink (integers p) (maximum-arc 0 (x .left)))
-      maximum-cost (suc maximum) = costless (maximum-arc (suc maximum) (x .left)) refl refl (past-kink (integers p) (maximum-arc (suc maximum) (x .left)))
+      maximum-cost (suc maximum) =
+          costless (maximum-arc (suc maximum) (x .left)) refl refl
+          (past-kink (integers p) (maximum-arc (suc maximum) (x .left)))
 
   -- the arcs of a layer cost nothing
   pub layer-cost : (width ground : ℕ) (l : Layer) → sum (cost (integers p)) (layer-arcs width ground l) ≡ pos 0

@@ -69,4 +69,5 @@ module _ (P : ℤ → Type 0) (none : P (pos 0)) where
   pub greatest-is : (x : List ℤ) → ((v : ℕ) → P (potential x v)) → P (greatest-of x)
   greatest-is [] f = none
   greatest-is (a ∷ []) f = f 0
-  greatest-is (a ∷ b ∷ x) f = chosen a b P (leZ a (greatest-of (b ∷ x))) (greatest-of (b ∷ x)) a (greatest-is (b ∷ x) (λ v. f (suc v))) (f 0)
+  greatest-is (a ∷ b ∷ x) f =
+      chosen a b P (leZ a (greatest-of (b ∷ x))) (greatest-of (b ∷ x)) a (greatest-is (b ∷ x) (λ v. f (suc v))) (f 0)

@@ -62,7 +62,8 @@ last-first-node zero v s = omega arith
 last-first-node (suc k) v s = omega (arith, last-first-node k (v + getD s nodes-at 0) (next-layer s))
 
 -- the nodes of layer j are among the first n
-layer-ends : (n k v : ℕ) (s : List ℕ) → GoodLayers n k v s → (j : ℕ) → j < k → getD (first-nodes k v s) j 0 + getD (node-counts k s) j 0 ≤ n
+layer-ends : (n k v : ℕ) (s : List ℕ) → GoodLayers n k v s → (j : ℕ) → j < k
+    → getD (first-nodes k v s) j 0 + getD (node-counts k s) j 0 ≤ n
 layer-ends n zero v s g j h = absurd (omega arith)
 layer-ends n (suc k) v s g zero h = g .0 .room
 layer-ends n (suc k) v s g (suc j) h = layer-ends n k (v + getD s nodes-at 0) (next-layer s) (g .1) j (omega arith)
@@ -73,7 +74,8 @@ pub record LayersGood (n k v : ℕ) (counts : List ℕ) (next : List ℕ → Gra
   pub rest : Accepts (next (counts ++ node-counts k s)) (behind-layers k s)
 
 -- the layers of accepted numbers
-good-layers : (n k room v : ℕ) (counts : List ℕ) {next : List ℕ → Grammar} {s : List ℕ} → v + nodes-of k s ≤ n → Accepts (layers k room counts next) s → LayersGood n k v counts next s
+good-layers : (n k room v : ℕ) (counts : List ℕ) {next : List ℕ → Grammar} {s : List ℕ} → v + nodes-of k s ≤ n
+    → Accepts (layers k room counts next) s → LayersGood n k v counts next s
 unfolding layers
 good-layers n zero room v counts {next} {s} h a = record { good = tt; rest = rw append-nil a }
 good-layers n (suc k) room v counts {next} {s} h a =
@@ -83,7 +85,15 @@ good-layers n (suc k) room v counts {next} {s} h a =
     let b = behind-layer s (omega (arith, o .there)) (o .rest) in
     let others = good-layers n k (room - c) (v + c) (counts ++ c ∷ []) (omega arith) (b .rest) in
     record {
-      good = (record { some = l .0; room = omega arith; there = b .there; pairs = good-pairs (c - 1) (layers k (room - c) (counts ++ c ∷ []) next) (o .rest) }, others .good);
+      good = (
+        record {
+          some = l .0;
+          room = omega arith;
+          there = b .there;
+          pairs = good-pairs (c - 1) (layers k (room - c) (counts ++ c ∷ []) next) (o .rest);
+        },
+        others .good,
+      );
       rest = rw append-assoc at (others .rest);
     }
 

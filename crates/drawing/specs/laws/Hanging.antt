@@ -54,7 +54,11 @@ first-hook : (width ground : ℕ) (l : Layer) → Hook ground (layer-arcs width 
 first-hook width ground l =
     record {
       arc = upper-bound (l .first) ground (pos 0);
-      listed = λ t a. and-left (t (upper-bound (l .first) ground (pos 0))) (all t (flatMap separation-arcs (l .pairs) ++ upper-bound ground (l .first + length (l .pairs)) (pos width) ∷ [])) a;
+      listed =
+          λ t a. and-left (t (upper-bound (l .first) ground (pos 0)))
+          (all t
+          (flatMap separation-arcs (l .pairs) ++ upper-bound ground (l .first + length (l .pairs)) (pos width) ∷ []))
+          a;
       tail-is = refl;
       hard = refl;
       not-right = leZ-yes tt;
@@ -62,7 +66,8 @@ first-hook width ground l =
     }
 
 -- each node of a layer hangs
-layer-hook : (width ground c v : ℕ) (s : List ℕ) (u : ℕ) → v ≤ u → u < v + c → Hook ground (layer-arcs width ground (record { first = v; pairs = pairs-of (c - 1) v s })) u
+layer-hook : (width ground c v : ℕ) (s : List ℕ) (u : ℕ) → v ≤ u → u < v + c
+    → Hook ground (layer-arcs width ground (record { first = v; pairs = pairs-of (c - 1) v s })) u
 layer-hook width ground c v s u h k =
     let l : Layer = record { first = v; pairs = pairs-of (c - 1) v s } in
     let left : List Arc = upper-bound v ground (pos 0) ∷ [] in
@@ -74,7 +79,8 @@ layer-hook width ground c v s u h k =
     (eq-or-ne u v)
 
 -- each node of k layers hangs
-layers-hook : (width ground k v : ℕ) (s : List ℕ) (u : ℕ) → v ≤ u → u < getD (first-nodes k v s) k 0 → Hook ground (flatMap (layer-arcs width ground) (layers-of k v s)) u
+layers-hook : (width ground k v : ℕ) (s : List ℕ) (u : ℕ) → v ≤ u → u < getD (first-nodes k v s) k 0
+    → Hook ground (flatMap (layer-arcs width ground) (layers-of k v s)) u
 unfolding flatMap
 layers-hook width ground zero v s u h i = absurd (omega arith)
 layers-hook width ground (suc k) v s u h i =
@@ -97,7 +103,8 @@ sheet-hangs s =
     }
 
 -- every integer solution is a drawing, as natural numbers
-pub solution-drawing : (s : List ℕ) (q : List ℤ) → Feasible (network (sheet-of s)) q → (integers (map up q) ≡ q) × Drawing (sheet-of s) (map up q)
+pub solution-drawing : (s : List ℕ) (q : List ℤ) → Feasible (network (sheet-of s)) q
+    → (integers (map up q) ≡ q) × Drawing (sheet-of s) (map up q)
 solution-drawing s q f =
     let e = natural-potentials (sheet-hangs s) q f in
     (e, feasible-drawing s (map up q) (subst (Feasible (network (sheet-of s))) (sym e) f))

@@ -27,7 +27,8 @@ pub data Among {A : Type 0} (x : A) : List A → Type 0 where
 -- node v is held: it stands at 0 (as the ground does), or a held node u holds it through a tight constraint
 pub data Held (p : List ℕ) (cs : List Constraint) : ℕ → Type 0 where
   at-zero : {v : ℕ} → coordinate p v ≡ 0 → Held p cs v
-  along : {u v k m : ℕ} → Among (record { from = u; plus = k; to = v; minus = m }) cs → coordinate p u + k ≡ coordinate p v + m → Held p cs u → Held p cs v
+  along : {u v k m : ℕ} → Among (record { from = u; plus = k; to = v; minus = m }) cs
+      → coordinate p u + k ≡ coordinate p v + m → Held p cs u → Held p cs v
 
 -- a test that all elements pass, each passes
 among-all : {A : Type 0} (t : A → Bool) {x : A} {xs : List A} → Among x xs → T (all t xs) → T (t x)
@@ -35,7 +36,8 @@ among-all t {x} (here {xs = xs}) a = and-left (t x) (all t xs) a
 among-all t {x} (later {z = z} {xs = xs} m) a = among-all t m (and-right (t z) (all t xs) a)
 
 -- coordinates that meet the constraints have a held node at least as far right
-held-le : {p : List ℕ} {cs : List Constraint} {v : ℕ} (q : List ℕ) → T (all (meets q) cs) → Held p cs v → coordinate p v ≤ coordinate q v
+held-le : {p : List ℕ} {cs : List Constraint} {v : ℕ} (q : List ℕ) → T (all (meets q) cs) → Held p cs v
+    → coordinate p v ≤ coordinate q v
 held-le q t (at-zero e) = omega arith
 held-le {p} q t (along {u = u} {v = v} {k = k} {m = m} i e h) =
     omega (arith, e, held-le q t h, leb→le (coordinate q u + k) (coordinate q v + m) (among-all (meets q) i t))

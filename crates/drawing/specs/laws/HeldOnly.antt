@@ -32,7 +32,8 @@ lower-length H [] = refl
 lower-length H (x ∷ p) = ap suc (lower-length (λ v. H (suc v)) p)
 
 -- a node's coordinate after the move
-lower-coordinate : (H : ℕ → Bool) (p : List ℕ) (v : ℕ) → coordinate (lower H p) v ≡ cond (H v) (coordinate p v) (coordinate p v - 1)
+lower-coordinate : (H : ℕ → Bool) (p : List ℕ) (v : ℕ)
+    → coordinate (lower H p) v ≡ cond (H v) (coordinate p v) (coordinate p v - 1)
 lower-coordinate H [] v = elim (H v) as (λ b. 0 ≡ cond b 0 (0 - 1)) [ true ↦ refl | false ↦ refl ]
 lower-coordinate H (x ∷ p) zero = refl
 lower-coordinate H (x ∷ p) (suc v) = lower-coordinate (λ v. H (suc v)) p v
@@ -96,9 +97,13 @@ module _ (s p : List ℕ) (y : List ℤ) (a : Accepted (sheet-of s) p y) where
   -- coordinates that pass the test are the leftmost least drawing
   pub test-leftmost : T (leftmost-test (sheet-of s) p y) → LeftmostDrawing (sheet-of s) p
   unfolding leftmost-test
-  test-leftmost t = held-leftmost s p y a (λ v h. held-reached p (constraints (sheet-of s) y) .sound v (below-at (sheet-of s .nodes) (held-set p (constraints (sheet-of s) y)) t v h))
+  test-leftmost t =
+      held-leftmost s p y a
+      (λ v h. held-reached p (constraints (sheet-of s) y) .sound v
+      (below-at (sheet-of s .nodes) (held-set p (constraints (sheet-of s) y)) t v h))
 
   -- the leftmost least drawing passes the test
   pub leftmost-passes : LeftmostDrawing (sheet-of s) p → T (leftmost-test (sheet-of s) p y)
   unfolding leftmost-test
-  leftmost-passes given = at-below (sheet-of s .nodes) (held-set p (constraints (sheet-of s) y)) (λ v h. leftmost-reached s p y a given v)
+  leftmost-passes given =
+      at-below (sheet-of s .nodes) (held-set p (constraints (sheet-of s) y)) (λ v h. leftmost-reached s p y a given v)

@@ -77,7 +77,9 @@ module _ (u : ℕ) (H : ℕ → Bool) where
 
   -- a missing node that is added counts no more
   here-less : T (not (H u)) → cond (add u H u) 0 1 < cond (H u) 0 1
-  here-less t = rw (eq-eqb u u refl) (elim (H u) as (λ b. T (not b) → 0 < cond b 0 1) [ true ↦ λ f. absurd f | false ↦ λ f. omega arith ] t)
+  here-less t =
+      rw (eq-eqb u u refl)
+      (elim (H u) as (λ b. T (not b) → 0 < cond b 0 1) [ true ↦ λ f. absurd f | false ↦ λ f. omega arith ] t)
 
   -- adding one of the first n nodes that is missing leaves fewer missing
   missing-less : (n : ℕ) → u < n → T (not (H u)) → missing n (add u H) < missing n H
@@ -92,7 +94,8 @@ module _ (u : ℕ) (H : ℕ → Bool) where
 -- at most all n are missing
 missing-all : (n : ℕ) (H : ℕ → Bool) → missing n H ≤ n
 missing-all zero H = omega arith
-missing-all (suc n) H = omega (arith, missing-all n H, elim (H n) as (λ b. cond b 0 1 ≤ 1) [ true ↦ omega arith | false ↦ omega arith ])
+missing-all (suc n) H =
+    omega (arith, missing-all n H, elim (H n) as (λ b. cond b 0 1 ≤ 1) [ true ↦ omega arith | false ↦ omega arith ])
 
 -- the search is complete: the set holds held nodes only, among them those at 0, and no constraint leaves it
 pub record Reached (p : List ℕ) (cs : List Constraint) (H : ℕ → Bool) : Type 0 where

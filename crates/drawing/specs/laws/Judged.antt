@@ -79,7 +79,9 @@ module _ (s p : List ℕ) (y : List ℤ) where
       record {
         drawing = test-drawing (sheet-of s) p (and-left (is-drawing (sheet-of s) p) (meets-rules (sheet-of s) y && equal-test) t);
         rules = and-left (meets-rules (sheet-of s) y) equal-test rest;
-        equal = eqZ→eq (bound (sheet-of s) y) (pos (total-length (sheet-of s) p)) (and-right (meets-rules (sheet-of s) y) equal-test rest);
+        equal =
+            eqZ→eq (bound (sheet-of s) y) (pos (total-length (sheet-of s) p))
+            (and-right (meets-rules (sheet-of s) y) equal-test rest);
       }
 
   -- the facts give a yes

@@ -27,5 +27,7 @@ module _ (S : Sheet) (proper : Proper S) where
   pub assignment-least-drawing : (x : List ℤ) → LeastAssignment S x → LeastDrawing S (shifted x)
   assignment-least-drawing x l = record {
     drawing = shifted-drawing S proper x (l .assignment);
-    least = λ q d. rw (shifted-total S proper x (l .assignment), ← drawing-length S q) (l .least (integers q) (drawing-assignment S q d));
+    least =
+        λ q d. rw (shifted-total S proper x (l .assignment), ← drawing-length S q)
+        (l .least (integers q) (drawing-assignment S q d));
   }

@@ -41,5 +41,7 @@ module _ (s p : List ℕ) (y : List ℤ) (a : Accepted (sheet-of s) p y) (q : Li
       record {
         size = b .is-least .drawing .size;
         met = equal-meets s p y a q (record { drawing = b .is-least .drawing; equal = same });
-        least = λ r size t. let g : EqualTotal (sheet-of s) p r = meets-equal s p y a r size t in b .leftmost r (g .drawing) (g .equal ∙ sym same);
+        least =
+            λ r size t. let g : EqualTotal (sheet-of s) p r = meets-equal s p y a r size t in b .leftmost r (g .drawing)
+            (g .equal ∙ sym same);
       }

@@ -31,7 +31,9 @@ idle-edge (suc kind) y = true
 
 -- the list meets the rules, with 0 for every plain edge, and its bound (floor) is above 0
 unfoldable pub shows-none : Sheet → List ℤ → Bool
-shows-none S y = meets-rules S y && (all (λ e. idle-edge (e .edge .kind) (e .amount)) (certificate S y .edges) && ltZ (pos 0) (bound S y))
+shows-none S y =
+    meets-rules S y &&
+    (all (λ e. idle-edge (e .edge .kind) (e .amount)) (certificate S y .edges) && ltZ (pos 0) (bound S y))
 
 -- the flow on the arc without its cost
 abbrev hard-flow : Flow → Flow
@@ -40,10 +42,12 @@ hard-flow f = record { on = hard-arc (f .on); amount = f .amount }
 -- the flows of a list on the arcs without their costs
 hard-flows : (arcs : List Arc) (y : List ℤ) → flows (map hard-arc arcs) y ≡ map hard-flow (flows arcs y)
 hard-flows [] y = refl
-hard-flows (a ∷ arcs) y = ap (λ (fs : List Flow). record { on = hard-arc a; amount = getD y 0 (pos 0) } ∷ fs) (hard-flows arcs (drop 1 y))
+hard-flows (a ∷ arcs) y =
+    ap (λ (fs : List Flow). record { on = hard-arc a; amount = getD y 0 (pos 0) } ∷ fs) (hard-flows arcs (drop 1 y))
 
 -- an edge's multiplier is allowed without the cost, where it is 0 for a plain edge
-hard-edge : (kind u v : ℕ) (y : ℤ) → T (idle-edge kind y) → T (allowed (hard-flow (record { on = edge-arc-between kind u v; amount = y })))
+hard-edge : (kind u v : ℕ) (y : ℤ) → T (idle-edge kind y)
+    → T (allowed (hard-flow (record { on = edge-arc-between kind u v; amount = y })))
 hard-edge zero u v y t = subst (λ (z : ℤ). T (leZ (pos 0) z && leZ z (pos 0))) (sym (eqZ→eq y (pos 0) t)) tt
 hard-edge (suc kind) u v y t = tt
 
@@ -54,7 +58,8 @@ hard-maximum zero v y = refl
 hard-maximum (suc maximum) v y = refl
 
 -- so do the arcs of a layer
-hard-layer : (width ground : ℕ) (l : LayerTerm) → all (λ f. allowed (hard-flow f)) (layer-flows width ground l) ≡ all allowed (layer-flows width ground l)
+hard-layer : (width ground : ℕ) (l : LayerTerm)
+    → all (λ f. allowed (hard-flow f)) (layer-flows width ground l) ≡ all allowed (layer-flows width ground l)
 hard-layer width ground l =
     layer-all width ground (λ f. allowed (hard-flow f)) l
     ∙ ap (λ (b : Bool). allowed (left-flow ground l) && (b && allowed (right-flow width ground l)))

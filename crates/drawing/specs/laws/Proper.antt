@@ -36,7 +36,8 @@ pub record Proper (S : Sheet) : Type 0 where
   pub ends : T (all (proper-edge (S .nodes)) (S .edges))
 
 -- a good pair is proper
-pair-proper : (n v : ℕ) (s : List ℕ) → suc v < n → GoodPair s → T (proper-pair n (record { left = v; minimum = getD s minimum-at 0; maximum = getD s maximum-at 0 }))
+pair-proper : (n v : ℕ) (s : List ℕ) → suc v < n → GoodPair s
+    → T (proper-pair n (record { left = v; minimum = getD s minimum-at 0; maximum = getD s maximum-at 0 }))
 pair-proper n v s h g =
     let minimum : ℕ = getD s minimum-at 0 in
     let maximum : ℕ = getD s maximum-at 0 in
@@ -62,7 +63,8 @@ layers-proper n (suc k) v s g =
     (layers-proper n k (v + c) (next-layer s) (g .1))
 
 -- good edges are proper
-edges-proper : (n : ℕ) (first : List ℕ) (m : ℕ) (s : List ℕ) → GoodEdges n first m s → T (all (proper-edge n) (edges-of first m s))
+edges-proper : (n : ℕ) (first : List ℕ) (m : ℕ) (s : List ℕ) → GoodEdges n first m s
+    → T (all (proper-edge n) (edges-of first m s))
 edges-proper n first zero s g = tt
 edges-proper n first (suc m) s g =
     let e : Edge = edge-of first s in

@@ -66,7 +66,9 @@ passes-says numbers (drawn total coordinates list) t =
     let equal : Bool = eqb (total-length (sheet-of numbers) coordinates) total in
     let both : T (least && leftmost) = and-left (least && leftmost) equal t in
     record {
-      leftmost = test-leftmost numbers coordinates list (judged-accepted numbers coordinates list (and-left least leftmost both)) (and-right least leftmost both);
+      leftmost =
+          test-leftmost numbers coordinates list
+          (judged-accepted numbers coordinates list (and-left least leftmost both)) (and-right least leftmost both);
       sum = eqb→eq (total-length (sheet-of numbers) coordinates) total (and-right (least && leftmost) equal t);
       accepted = is-true least (and-left least leftmost both);
     }
@@ -98,4 +100,5 @@ Every (r ∷ rows) = Holds r × Every rows
 -- a table that passes holds
 pub every : (rows : List Row) → T (all passed rows) → Every rows
 every [] t = tt
-every (r ∷ rows) t = (passed-holds r (and-left (passed r) (all passed rows) t), every rows (and-right (passed r) (all passed rows) t))
+every (r ∷ rows) t =
+    (passed-holds r (and-left (passed r) (all passed rows) t), every rows (and-right (passed r) (all passed rows) t))

@@ -49,7 +49,9 @@ inside-at w (x ∷ p) t (suc v) = inside-at w p (and-right (leb x w) (all (λ x.
 -- where each node's coordinate is within w, every one is
 pub at-inside : (w : ℕ) (p : List ℕ) → ((v : ℕ) → v < length p → coordinate p v ≤ w) → T (all (λ x. leb x w) p)
 at-inside w [] f = tt
-at-inside w (x ∷ p) f = and-both (leb x w) (all (λ x. leb x w) p) (le→leb x w (f 0 (omega arith))) (at-inside w p (λ v h. f (suc v) (omega arith)))
+at-inside w (x ∷ p) f =
+    and-both (leb x w) (all (λ x. leb x w) p) (le→leb x w (f 0 (omega arith)))
+    (at-inside w p (λ v h. f (suc v) (omega arith)))
 
 module _ (S : Sheet) (p : List ℕ) where
   -- ground, the node behind the last one, stands at 0
@@ -117,7 +119,8 @@ separated-le p x t =
     )
 
 -- no node of c pairs is right of the last one
-rightmost : (p : List ℕ) (c v : ℕ) (s : List ℕ) → T (all (separated p) (pairs-of c v s)) → (u : ℕ) → v ≤ u → u ≤ v + c → coordinate p u ≤ coordinate p (v + c)
+rightmost : (p : List ℕ) (c v : ℕ) (s : List ℕ) → T (all (separated p) (pairs-of c v s)) → (u : ℕ) → v ≤ u → u ≤ v + c
+    → coordinate p u ≤ coordinate p (v + c)
 rightmost p zero v s t u a b = le-of-eq (ap (coordinate p) (omega arith))
 rightmost p (suc c) v s t u a b =
     let x : Pair = record { left = v; minimum = getD s minimum-at 0; maximum = getD s maximum-at 0 } in
@@ -158,7 +161,9 @@ module _ (s p : List ℕ) where
       let ls : T (all (layer-test (S .width) p) (S .layers)) = and-right (all (edge-aligned p) (S .edges)) (all (layer-test (S .width) p) (S .layers)) t in
       record {
         size = size;
-        inside = at-inside (S .width) p (λ v h. in-layers (S .width) p (getD s layers-at 0) 0 (drop first-layer-at s) ls v zero-le (omega arith));
+        inside =
+            at-inside (S .width) p
+            (λ v h. in-layers (S .width) p (getD s layers-at 0) 0 (drop first-layer-at s) ls v zero-le (omega arith));
         separations = all-map (layer-test (S .width) p) (λ l. all (separated p) (l .pairs))
             (λ l. and-left (all (separated p) (l .pairs)) (leb (coordinate p (l .first + length (l .pairs))) (S .width))) (S .layers) ls;
         straight = and-left (all (edge-aligned p) (S .edges)) (all (layer-test (S .width) p) (S .layers)) t;
@@ -175,7 +180,10 @@ least-drawing s p h =
     let d : Drawing (sheet-of s) p = feasible-drawing s p (h .feasible) in
     record {
       drawing = d;
-      least = λ q dq. nat-le (subst₂ _≤ℤ_ (same-total (sheet-of s) p d) (same-total (sheet-of s) q dq) (h .least (integers q) (drawing-feasible (sheet-of s) q dq)));
+      least =
+          λ q dq. nat-le
+          (subst₂ _≤ℤ_ (same-total (sheet-of s) p d) (same-total (sheet-of s) q dq)
+          (h .least (integers q) (drawing-feasible (sheet-of s) q dq)));
     }
 
 -- what is leftmost among the least in the network is the leftmost least drawing

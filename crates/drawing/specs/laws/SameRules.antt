@@ -25,7 +25,8 @@ same-edge-limits zero u v y = refl
 same-edge-limits (suc kind) u v y = refl
 
 -- so does the arc of a maximum separation, set or not
-same-maximum-limits : (maximum v : ℕ) (y : ℤ) → allowed (record { on = maximum-arc maximum v; amount = y }) ≡ (leZ (pos 0) y && unset-limit maximum y)
+same-maximum-limits : (maximum v : ℕ) (y : ℤ)
+    → allowed (record { on = maximum-arc maximum v; amount = y }) ≡ (leZ (pos 0) y && unset-limit maximum y)
 same-maximum-limits zero v y = test-ext (leZ (pos 0) y && leZ y (pos 0)) (leZ (pos 0) y && eqZ y (pos 0))
     (λ t. and-both (leZ (pos 0) y) (eqZ y (pos 0)) (and-left (leZ (pos 0) y) (leZ y (pos 0)) t)
     (eq→eqZ y (pos 0) (≤ℤ-antisym (leZ-yes (and-right (leZ (pos 0) y) (leZ y (pos 0)) t)) (leZ-yes (and-left (leZ (pos 0) y) (leZ y (pos 0)) t)))))
@@ -35,7 +36,8 @@ same-maximum-limits (suc maximum) v y = refl
 
 -- so do the two arcs of a pair
 same-pair-limits : (x : PairTerm) → (allowed (minimum-flow x) && allowed (maximum-flow x)) ≡ pair-limits x
-same-pair-limits x = ap₂ _&&_ (and-true (leZ (pos 0) (x .minimum))) (same-maximum-limits (x .pair .maximum) (x .pair .left) (x .maximum))
+same-pair-limits x =
+    ap₂ _&&_ (and-true (leZ (pos 0) (x .minimum))) (same-maximum-limits (x .pair .maximum) (x .pair .left) (x .maximum))
 
 -- so do the arcs of a layer
 same-layer-limits : (width ground : ℕ) (l : LayerTerm) → all allowed (layer-flows width ground l) ≡ layer-limits l
@@ -55,12 +57,14 @@ same-limits S y =
 
 module _ (v : ℕ) where
   -- an edge's multiplier counts at its lower end, and against its upper one
-  edge-inflow : (kind u w : ℕ) (y : ℤ) → inflow v (record { on = edge-arc-between kind u w; amount = y }) ≡ only w y v -ℤ only u y v
+  edge-inflow : (kind u w : ℕ) (y : ℤ)
+      → inflow v (record { on = edge-arc-between kind u w; amount = y }) ≡ only w y v -ℤ only u y v
   edge-inflow zero u w y = refl
   edge-inflow (suc kind) u w y = refl
 
   -- that of a maximum separation counts at the right node, and against the left one
-  maximum-inflow : (maximum u : ℕ) (y : ℤ) → inflow v (record { on = maximum-arc maximum u; amount = y }) ≡ only (suc u) y v -ℤ only u y v
+  maximum-inflow : (maximum u : ℕ) (y : ℤ)
+      → inflow v (record { on = maximum-arc maximum u; amount = y }) ≡ only (suc u) y v -ℤ only u y v
   maximum-inflow zero u y = refl
   maximum-inflow (suc maximum) u y = refl
 
@@ -119,12 +123,16 @@ module _ (S : Sheet) (y : List ℤ) where
 
   -- flow conservation at a node is its balance in the certificate
   same-balance : (v : ℕ) → v < S .nodes → eqZ (sum (inflow v) (flows (network S .arcs) y)) (pos 0) ≡ balanced-at C v
-  same-balance v h = ap (λ (z : ℤ). eqZ z (pos 0)) (node-inflow v h) ∙ moved-over (from-edges C v) (sum (layer-smaller v) (C .layers)) (sum (layer-greater v) (C .layers))
+  same-balance v h =
+      ap (λ (z : ℤ). eqZ z (pos 0)) (node-inflow v h)
+      ∙ moved-over (from-edges C v) (sum (layer-smaller v) (C .layers)) (sum (layer-greater v) (C .layers))
 
   -- the two tests of the rules agree
   pub same-rules : rules (network S) y ≡ meets-rules S y
   unfolding rules meets-rules network
-  same-rules = ap₂ _&&_ (same-limits S y) (below-ext (λ v. eqZ (sum (inflow v) (flows (network S .arcs) y)) (pos 0)) (balanced-at C) (S .nodes) same-balance)
+  same-rules =
+      ap₂ _&&_ (same-limits S y)
+      (below-ext (λ v. eqZ (sum (inflow v) (flows (network S .arcs) y)) (pos 0)) (balanced-at C) (S .nodes) same-balance)
 
 -- an edge adds nothing to the bound
 edge-bound : (kind u v : ℕ) (y : ℤ) → bound-term (record { on = edge-arc-between kind u v; amount = y }) ≡ pos 0

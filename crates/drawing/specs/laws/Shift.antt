@@ -38,7 +38,8 @@ mapped f (x ∷ xs) d e (suc v) h = mapped f xs d e v (le-of-suc-le-suc h)
 
 module _ (x : List ℤ) where
   -- a coordinate is the least one and the shifted one together, as an equation of natural numbers
-  shift-parts : (v : ℕ) → v < length x → up (potential x v) + down (least-of x) ≡ down (potential x v) + (up (least-of x) + coordinate (shifted x) v)
+  shift-parts : (v : ℕ) → v < length x
+      → up (potential x v) + down (least-of x) ≡ down (potential x v) + (up (least-of x) + coordinate (shifted x) v)
   unfolding up down
   shift-parts v h =
       let m : ℤ = least-of x in
@@ -49,13 +50,15 @@ module _ (x : List ℤ) where
   -- two nodes u and v
   module _ (u v : ℕ) (hu : u < length x) (hv : v < length x) where
     -- a shift keeps a minimum separation
-    shift-minimum : (d : ℕ) → T (leZ (potential x u +ℤ pos d) (potential x v)) → T (leb (coordinate (shifted x) u + d) (coordinate (shifted x) v))
+    shift-minimum : (d : ℕ) → T (leZ (potential x u +ℤ pos d) (potential x v))
+        → T (leb (coordinate (shifted x) u + d) (coordinate (shifted x) v))
     unfolding up down
     shift-minimum d t = le→leb (coordinate (shifted x) u + d) (coordinate (shifted x) v)
         (omega (arith, le-parts {a = potential x u +ℤ pos d} {b = potential x v} (leZ-yes t), sum-parts (potential x u) (pos d), shift-parts u hu, shift-parts v hv))
 
     -- a shift keeps a maximum separation, where one is set
-    shift-maximum : (maximum : ℕ) → T (within-maximumZ maximum (potential x u) (potential x v)) → T (within-maximum maximum (coordinate (shifted x) u) (coordinate (shifted x) v))
+    shift-maximum : (maximum : ℕ) → T (within-maximumZ maximum (potential x u) (potential x v))
+        → T (within-maximum maximum (coordinate (shifted x) u) (coordinate (shifted x) v))
     unfolding up down
     shift-maximum zero t = tt
     shift-maximum (suc maximum) t =
@@ -64,7 +67,8 @@ module _ (x : List ℤ) where
         (omega (arith, le-parts within, sum-parts (potential x u) (pos (suc maximum)), shift-parts u hu, shift-parts v hv))
 
     -- a shift keeps a straight edge straight
-    shift-aligned : (kind : ℕ) → T (alignedZ kind (potential x u) (potential x v)) → T (aligned kind (coordinate (shifted x) u) (coordinate (shifted x) v))
+    shift-aligned : (kind : ℕ) → T (alignedZ kind (potential x u) (potential x v))
+        → T (aligned kind (coordinate (shifted x) u) (coordinate (shifted x) v))
     shift-aligned zero t = tt
     shift-aligned (suc kind) t =
         let e : potential x u ≡ potential x v = eqZ→eq (potential x u) (potential x v) t in
@@ -99,7 +103,10 @@ module _ (x : List ℤ) where
 -- what stands at least 1 further right is greater
 less : (a b : ℤ) (k : ℕ) → 1 ≤ k → T (leZ (a +ℤ pos k) b) → T (ltZ a b)
 unfolding up down
-less a b k h t = not-not (ltZ a b) (λ n. omega (arith, le-parts {a = b} {b = a} (ltZ-no n), le-parts {a = a +ℤ pos k} {b = b} (leZ-yes t), sum-parts a (pos k)))
+less a b k h t =
+    not-not (ltZ a b)
+    (λ n. omega
+    (arith, le-parts {a = b} {b = a} (ltZ-no n), le-parts {a = a +ℤ pos k} {b = b} (leZ-yes t), sum-parts a (pos k)))
 
 module _ (S : Sheet) (proper : Proper S) (x : List ℤ) (a : Assignment S x) where
   -- a node has a coordinate
@@ -131,7 +138,9 @@ module _ (S : Sheet) (proper : Proper S) (x : List ℤ) (a : Assignment S x) whe
   pub shifted-drawing : Drawing S (shifted x)
   shifted-drawing = record {
     size = length-map x (gap (least-of x)) ∙ a .size;
-    inside = at-inside (S .width) (shifted x) (λ v h. shift-inside x (S .width) (a .narrow) v (rw (length-map x (gap (least-of x))) at h));
+    inside =
+        at-inside (S .width) (shifted x)
+        (λ v h. shift-inside x (S .width) (a .narrow) v (rw (length-map x (gap (least-of x))) at h));
     separations = all-map₂ (λ l. all (proper-pair (S .nodes)) (l .pairs)) (λ l. all (separatedZ x) (l .pairs)) (λ l. all (separated (shifted x)) (l .pairs))
         (λ l. all-map₂ (proper-pair (S .nodes)) (separatedZ x) (separated (shifted x)) separated-shifted (l .pairs)) (S .layers) (proper .pairs) (a .separations);
     straight = all-map₂ (proper-edge (S .nodes)) (edge-alignedZ x) (edge-aligned (shifted x))
@@ -150,7 +159,8 @@ module _ (S : Sheet) (proper : Proper S) (x : List ℤ) (a : Assignment S x) whe
       (λ l. all-map₂ (proper-pair (S .nodes)) (separatedZ x) (λ n. ltZ (potential x (n .left)) (potential x (suc (n .left)))) before (l .pairs)) (S .layers) (proper .pairs) (a .separations)
     where
       -- a pair's left node is left of its right one, as a minimum separation is 1 at least
-      before : (n : Pair) → T (proper-pair (S .nodes) n) → T (separatedZ x n) → T (ltZ (potential x (n .left)) (potential x (suc (n .left))))
+      before : (n : Pair) → T (proper-pair (S .nodes) n) → T (separatedZ x n)
+          → T (ltZ (potential x (n .left)) (potential x (suc (n .left))))
       before n i t =
           let l : ℤ = potential x (n .left) in
           let r : ℤ = potential x (suc (n .left)) in
@@ -163,22 +173,26 @@ module _ (S : Sheet) (proper : Proper S) (x : List ℤ) (a : Assignment S x) whe
 
 module _ (p : List ℕ) where
   -- a drawing as integers: the test of a minimum separation
-  minimum-is : (d u v : ℕ) → leZ (potential (integers p) u +ℤ pos d) (potential (integers p) v) ≡ leb (coordinate p u + d) (coordinate p v)
+  minimum-is : (d u v : ℕ)
+      → leZ (potential (integers p) u +ℤ pos d) (potential (integers p) v) ≡ leb (coordinate p u + d) (coordinate p v)
   minimum-is d u v = rw (integer-coordinate p u, integer-coordinate p v)
 
   -- the test of a maximum separation
-  maximum-is : (maximum u v : ℕ) → within-maximumZ maximum (potential (integers p) u) (potential (integers p) v) ≡ within-maximum maximum (coordinate p u) (coordinate p v)
+  maximum-is : (maximum u v : ℕ)
+      → within-maximumZ maximum (potential (integers p) u) (potential (integers p) v) ≡ within-maximum maximum (coordinate p u) (coordinate p v)
   maximum-is zero u v = refl
   maximum-is (suc maximum) u v = rw (integer-coordinate p u, integer-coordinate p v)
 
   -- the test of a straight edge
-  aligned-is : (kind u v : ℕ) → alignedZ kind (potential (integers p) u) (potential (integers p) v) ≡ aligned kind (coordinate p u) (coordinate p v)
+  aligned-is : (kind u v : ℕ)
+      → alignedZ kind (potential (integers p) u) (potential (integers p) v) ≡ aligned kind (coordinate p u) (coordinate p v)
   aligned-is zero u v = refl
   aligned-is (suc kind) u v = rw (integer-coordinate p u, integer-coordinate p v)
 
   -- the test of a pair
   separated-is : (n : Pair) → separatedZ (integers p) n ≡ separated p n
-  separated-is n = ap₂ _&&_ (minimum-is (n .minimum) (n .left) (suc (n .left))) (maximum-is (n .maximum) (n .left) (suc (n .left)))
+  separated-is n =
+      ap₂ _&&_ (minimum-is (n .minimum) (n .left) (suc (n .left))) (maximum-is (n .maximum) (n .left) (suc (n .left)))
 
   -- the length of an edge
   length-is : (e : Edge) → edge-lengthZ (integers p) e ≡ edge-length p e
@@ -202,7 +216,12 @@ module _ (S : Sheet) (p : List ℕ) where
         (sym (all-ext (λ l. all (separatedZ (integers p)) (l .pairs)) (λ l. all (separated p) (l .pairs))
         (λ l. all-ext (separatedZ (integers p)) (separated p) (separated-is p) (l .pairs)) (S .layers)))
         (d .separations);
-    straight = subst T (sym (all-ext (edge-alignedZ (integers p)) (edge-aligned p) (λ e. aligned-is p (e .kind) (e .upper) (e .lower)) (S .edges))) (d .straight);
+    straight =
+        subst T
+        (sym
+        (all-ext (edge-alignedZ (integers p)) (edge-aligned p) (λ e. aligned-is p (e .kind) (e .upper) (e .lower))
+        (S .edges)))
+        (d .straight);
     narrow =
         let W : ℤ = pos (S .width) in
         let least : ℤ = least-of (integers p) in

@@ -59,7 +59,8 @@ flows-append (a ∷ xs) zs y =
 -- the flows on the arcs of edges
 edges-are : (es : List Edge) (y : List ℤ) → flows (map edge-arc es) y ≡ map edge-flow (edge-terms es y)
 edges-are [] y = refl
-edges-are (e ∷ es) y = ap (λ (fs : List Flow). record { on = edge-arc e; amount = getD y 0 (pos 0) } ∷ fs) (edges-are es (drop 1 y))
+edges-are (e ∷ es) y =
+    ap (λ (fs : List Flow). record { on = edge-arc e; amount = getD y 0 (pos 0) } ∷ fs) (edges-are es (drop 1 y))
 
 -- the flows on the arcs of pairs
 pairs-are : (xs : List Pair) (y : List ℤ) → flows (flatMap separation-arcs xs) y ≡ flatMap pair-flows (pair-terms xs y)
@@ -79,7 +80,8 @@ layer-length width ground l =
     omega (arith, length-append (flatMap separation-arcs (l .pairs)) (upper-bound ground (last-node l) (pos width) ∷ []), pairs-length (l .pairs))
 
 -- the flows on the arcs of a layer
-layer-is : (width ground : ℕ) (l : Layer) (y : List ℤ) → flows (layer-arcs width ground l) y ≡ layer-flows width ground (layer-term l y)
+layer-is : (width ground : ℕ) (l : Layer) (y : List ℤ)
+    → flows (layer-arcs width ground l) y ≡ layer-flows width ground (layer-term l y)
 layer-is width ground l y =
     ap (λ (fs : List Flow). left-flow ground (layer-term l y) ∷ fs)
     (flows-append (flatMap separation-arcs (l .pairs)) (upper-bound ground (last-node l) (pos width) ∷ []) (drop 1 y)
@@ -89,7 +91,8 @@ layer-is width ground l y =
     ∙ ap (λ (n : ℕ). getD y n (pos 0)) (omega (arith, pairs-length (l .pairs)))))
 
 -- the flows on the arcs of layers
-layers-are : (width ground : ℕ) (ls : List Layer) (y : List ℤ) → flows (flatMap (layer-arcs width ground) ls) y ≡ flatMap (layer-flows width ground) (layer-terms ls y)
+layers-are : (width ground : ℕ) (ls : List Layer) (y : List ℤ)
+    → flows (flatMap (layer-arcs width ground) ls) y ≡ flatMap (layer-flows width ground) (layer-terms ls y)
 unfolding flatMap
 layers-are width ground [] y = refl
 layers-are width ground (l ∷ ls) y =

@@ -57,13 +57,15 @@ itself true = refl
 itself false = refl
 
 -- an upper bound is tight where it is not past its kink, and not before it unless the flow is 0
-within-signs : (u v : ℕ) (k y d : ℤ) → tight-at (upper-bound u v k) y d ≡ (leZ d (pos 0) && cond (eqZ y (pos 0)) true (leZ (pos 0) d))
+within-signs : (u v : ℕ) (k y d : ℤ)
+    → tight-at (upper-bound u v k) y d ≡ (leZ d (pos 0) && cond (eqZ y (pos 0)) true (leZ (pos 0) d))
 within-signs u v k y (pos zero) = sym (always (eqZ y (pos 0)))
 within-signs u v k y (pos (suc n)) = rw leb·suc-zero
 within-signs u v k y (negsuc n) = sym (itself (eqZ y (pos 0)))
 
 -- a plain edge's arc is tight where it is not before its kink unless the flow is −1, and not past it unless it is 1
-plain-signs : (u v : ℕ) (y d : ℤ) → tight-at (edge-arc-between 0 u v) y d ≡ (cond (eqZ y (negsuc 0)) true (leZ (pos 0) d) && cond (eqZ y (pos 1)) true (leZ d (pos 0)))
+plain-signs : (u v : ℕ) (y d : ℤ)
+    → tight-at (edge-arc-between 0 u v) y d ≡ (cond (eqZ y (negsuc 0)) true (leZ (pos 0) d) && cond (eqZ y (pos 1)) true (leZ d (pos 0)))
 plain-signs u v y (pos zero) = rw (always (eqZ y (negsuc 0)), always (eqZ y (pos 1)))
 plain-signs u v y (pos (suc n)) = rw (leb·zero, leb·suc-zero, always (eqZ y (negsuc 0)), itself (eqZ y (pos 1)))
 plain-signs u v y (negsuc n) = rw (itself (eqZ y (negsuc 0)), always (eqZ y (pos 1))) (sym (and-true (eqZ y (negsuc 0))))
@@ -89,12 +91,14 @@ module _ (q : List ℕ) where
       ∙ ap (λ (b : Bool). meets q c && b) (sym (unless-all (meets q) (eqZ y (pos 0)) (opposite c)))
 
   -- an edge's arc, whose kink is 0, as an equation of natural numbers
-  edge-parts : (u v : ℕ) → up (past-kink (integers q) (upper-bound u v (pos 0))) + (coordinate q u + 0) ≡ down (past-kink (integers q) (upper-bound u v (pos 0))) + (coordinate q v + 0)
+  edge-parts : (u v : ℕ)
+      → up (past-kink (integers q) (upper-bound u v (pos 0))) + (coordinate q u + 0) ≡ down (past-kink (integers q) (upper-bound u v (pos 0))) + (coordinate q v + 0)
   unfolding up down
   edge-parts u v = past-kink-parts q u v (pos 0)
 
   -- an edge's arc is tight where its constraints are met
-  edge-tight : (kind u v : ℕ) (y : ℤ) → tight (integers q) (record { on = edge-arc-between kind u v; amount = y }) ≡ all (meets q) (edge-constraints kind u v y)
+  edge-tight : (kind u v : ℕ) (y : ℤ)
+      → tight (integers q) (record { on = edge-arc-between kind u v; amount = y }) ≡ all (meets q) (edge-constraints kind u v y)
   edge-tight zero u v y =
       let d : ℤ = past-kink (integers q) (upper-bound u v (pos 0)) in
       plain-signs u v y d
@@ -123,7 +127,9 @@ module _ (q : List ℕ) where
       free (pos zero) = refl
       free (pos (suc n)) = is-zero
       free (negsuc n) = is-zero
-  maximum-tight (suc maximum) v y t = within-tight v (suc v) (pos (suc maximum)) y (record { from = suc v; plus = 0; to = v; minus = suc maximum }) refl refl
+  maximum-tight (suc maximum) v y t =
+      within-tight v (suc v) (pos (suc maximum)) y (record { from = suc v; plus = 0; to = v; minus = suc maximum }) refl
+      refl
 
   -- so are the two arcs of a pair
   pair-tight : (x : PairTerm) → T (pair-limits x)
@@ -164,7 +170,8 @@ module _ (q : List ℕ) where
 
 module _ (S : Sheet) (y : List ℤ) (q : List ℕ) where
   -- complementary slackness is that all constraints are met
-  pub constraints-tight : T (limits (certificate S y)) → complementary (network S) y (integers q) ≡ all (meets q) (constraints S y)
+  pub constraints-tight : T (limits (certificate S y))
+      → complementary (network S) y (integers q) ≡ all (meets q) (constraints S y)
   unfolding complementary constraints
   constraints-tight t =
       let edges : EdgeTerm → List Constraint = λ e. edge-constraints (e .edge .kind) (e .edge .upper) (e .edge .lower) (e .amount) in
@@ -198,7 +205,9 @@ module _ (s p : List ℕ) (y : List ℤ) (a : Accepted (sheet-of s) p y) (q : Li
   -- and the limits of its numbers
   within-limits : T (limits (certificate (sheet-of s) y))
   unfolding meets-rules
-  within-limits = and-left (limits (certificate (sheet-of s) y)) (below (sheet-of s .nodes) (balanced-at (certificate (sheet-of s) y))) (a .rules)
+  within-limits =
+      and-left (limits (certificate (sheet-of s) y))
+      (below (sheet-of s .nodes) (balanced-at (certificate (sheet-of s) y))) (a .rules)
 
   -- its bound in the network is p's total, which is least
   bound-is : network-bound N y ≡ pos (total-length (sheet-of s) p)

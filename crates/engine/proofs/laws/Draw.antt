@@ -36,14 +36,20 @@ use Rattle.engine.proofs.laws.Finish.{meant-is}
 
 module _ {a : List ℕ} {c : Counts} (p : List ℕ) (y : List ℤ) where
   -- too few places
-  pub few-places-drawn : {r : Answer} → r ≡ Refused (refusal slice-short 0) → length p < c .nodes → DrawsHeld a c p y p y (result r)
+  pub few-places-drawn : {r : Answer} → r ≡ Refused (refusal slice-short 0) → length p < c .nodes
+      → DrawsHeld a c p y p y (result r)
   unfolding result
-  few-places-drawn e l h = subst (λ (r : Answer). DrawsSheet (sheet-of (h .numbers)) p y p y (result r)) (sym e) (few-places (omega (arith, h .nodes-are)), refl, (refl, refl))
+  few-places-drawn e l h =
+      subst (λ (r : Answer). DrawsSheet (sheet-of (h .numbers)) p y p y (result r)) (sym e)
+      (few-places (omega (arith, h .nodes-are)), refl, (refl, refl))
 
   -- too short a list
-  pub few-numbers-drawn : {r : Answer} → r ≡ Refused (refusal slice-short 0) → length y < c .arcs → DrawsHeld a c p y p y (result r)
+  pub few-numbers-drawn : {r : Answer} → r ≡ Refused (refusal slice-short 0) → length y < c .arcs
+      → DrawsHeld a c p y p y (result r)
   unfolding result
-  few-numbers-drawn e l h = subst (λ (r : Answer). DrawsSheet (sheet-of (h .numbers)) p y p y (result r)) (sym e) (few-numbers (omega (arith, size-is h)), refl, (refl, refl))
+  few-numbers-drawn e l h =
+      subst (λ (r : Answer). DrawsSheet (sheet-of (h .numbers)) p y p y (result r)) (sym e)
+      (few-numbers (omega (arith, size-is h)), refl, (refl, refl))
 
   -- no drawing
   pub none-drawn : {r : Answer} → r ≡ Refused (refusal none-exists 0) → c .nodes ≤ length p → c .arcs ≤ length y
@@ -67,7 +73,8 @@ pub record Solved-from (a : List ℕ) (c : Counts) (x₀ nodes₀ x nodes : List
 pub solved-from : {a : List ℕ} {c : Counts} (x₀ nodes₀ chains₀ x nodes chains : List ℕ) (r : circulation.Answer) → length x₀ ≡ c .arcs
     → length nodes₀ ≡ node-stride * (c .nodes + 1) → Valid (net a (c .arcs)) (c .nodes + 1) (potentials nodes₀)
     → Means (net a (length x₀)) x₀ nodes₀ chains₀ x nodes chains r → Solved-from a c x₀ nodes₀ x nodes
-solved-from {a} {c} x₀ nodes₀ chains₀ x nodes chains r xs ns v g = go r (subst (λ (m : ℕ). Means (net a m) x₀ nodes₀ chains₀ x nodes chains r) xs g)
+solved-from {a} {c} x₀ nodes₀ chains₀ x nodes chains r xs ns v g =
+    go r (subst (λ (m : ℕ). Means (net a m) x₀ nodes₀ chains₀ x nodes chains r) xs g)
   where
     count : length nodes₀ / node-stride ≡ c .nodes + 1
     count = omega arith
@@ -77,12 +84,14 @@ solved-from {a} {c} x₀ nodes₀ chains₀ x nodes chains r xs ns v g = go r (s
     go Malformed g = absurd (g .0 (subst (λ (n : ℕ). Valid (net a (c .arcs)) n (potentials nodes₀)) (sym count) v))
 
 -- where the start says no, nothing is feasible
-pub not-started : (a : List ℕ) (m n : ℕ) (nodes : List ℕ) (b : Bool) → Started a m n nodes b → b ≡ false → NoneFeasible (meant (net a m) n)
+pub not-started : (a : List ℕ) (m n : ℕ) (nodes : List ℕ) (b : Bool) → Started a m n nodes b → b ≡ false
+    → NoneFeasible (meant (net a m) n)
 not-started a m n nodes true g e = absurd (subst T e tt)
 not-started a m n nodes false g e = g
 
 -- where it says yes, it is a start
-pub is-started : (a : List ℕ) (m n : ℕ) (nodes : List ℕ) (b : Bool) → Started a m n nodes b → b ≡ true → Valid (net a m) n (potentials nodes)
+pub is-started : (a : List ℕ) (m n : ℕ) (nodes : List ℕ) (b : Bool) → Started a m n nodes b → b ≡ true
+    → Valid (net a m) n (potentials nodes)
 is-started a m n nodes true g e = g
 is-started a m n nodes false g e = absurd (subst T (sym e) tt)
 

@@ -42,7 +42,8 @@ use Rattle.engine.specs.inside.Results.{place-at, number-at, Places, Flo
 use Rattle.engine.specs.inside.Stages.{Settled}
 
 -- the network that the solvers read is the sheet's
-pub meant-is : {a : List ℕ} {c : Counts} (h : Holds a c) → meant (net a (c .arcs)) (c .nodes + 1) ≡ network (sheet-of (h .numbers))
+pub meant-is : {a : List ℕ} {c : Counts} (h : Holds a c)
+    → meant (net a (c .arcs)) (c .nodes + 1) ≡ network (sheet-of (h .numbers))
 meant-is {a} {c} h = ap (λ (k : ℕ). network-of a k (c .arcs)) less-one ∙ network-is h
   where
     less-one : c .nodes + 1 - 1 ≡ c .nodes
@@ -110,7 +111,10 @@ module _ {a : List ℕ} {c : Counts} (h : Holds a c) (flows nodes : List ℕ) (f
 
   -- as many coordinates as nodes
   p-size : length p ≡ c .nodes
-  p-size = length-map q up ∙ upto-length (c .nodes + 1 - 1) (λ v. pos (at (potentials nodes) v) -ℤ pos potential-zero) ∙ omega arith
+  p-size =
+      length-map q up
+      ∙ upto-length (c .nodes + 1 - 1) (λ v. pos (at (potentials nodes) v) -ℤ pos potential-zero)
+      ∙ omega arith
 
   -- what is written are the coordinates
   written-places : upto (c .nodes) (place-at nodes) ≡ p
@@ -159,7 +163,8 @@ module _ {a : List ℕ} {c : Counts} (h : Holds a c) (flows nodes : List ℕ) (f
         y-size = upto-length (c .arcs) (number-at flows) ∙ size-is h
 
     -- the total
-    total-of : (r : ℕ) → r ≡ min u32-most (lengths-of (take (c .nodes - 0) p′) (take (stride * c .edges - 0) a)) → r ≡ total-length S p
+    total-of : (r : ℕ) → r ≡ min u32-most (lengths-of (take (c .nodes - 0) p′) (take (stride * c .edges - 0) a))
+        → r ≡ total-length S p
     total-of r e =
         e
         ∙ ap₂ (λ (l k : List ℕ). min u32-most (lengths-of l k))
@@ -168,7 +173,8 @@ module _ {a : List ℕ} {c : Counts} (h : Holds a c) (flows nodes : List ℕ) (f
         ∙ drawing-total S p (proper h) (drawing-is .is-least .drawing)
 
     -- what the contract says
-    pub returned : (r : ℕ) → r ≡ min u32-most (lengths-of (take (c .nodes - 0) p′) (take (stride * c .edges - 0) a)) → Returns S p₀ y₀ p′ y′ r
+    pub returned : (r : ℕ) → r ≡ min u32-most (lengths-of (take (c .nodes - 0) p′) (take (stride * c .edges - 0) a))
+        → Returns S p₀ y₀ p′ y′ r
     returned r e =
         let t : r ≡ total-length S p = total-of r e in
         let size : length y ≡ certificate-size S = upto-length (c .arcs) (number-at flows) ∙ size-is h in
@@ -178,8 +184,13 @@ module _ {a : List ℕ} {c : Counts} (h : Holds a c) (flows nodes : List ℕ) (f
           places-behind = ap (drop (S .nodes)) places-are ∙ drop-at p (drop (S .nodes) p₀) (S .nodes) (p-size ∙ h .nodes-are);
           total-is = t ∙ ap (total-length S) (sym front);
           total-in = omega (arith, total-small S p (proper h) (drawing-is .is-least .drawing));
-          list-size = ap length list-is ∙ length-append y (drop (certificate-size S) y₀) ∙ omega (arith, size, length-drop (certificate-size S) y₀, size-is h);
-          list-behind = ap (drop (certificate-size S)) list-is ∙ drop-at y (drop (certificate-size S) y₀) (certificate-size S) size;
+          list-size =
+              ap length list-is
+              ∙ length-append y (drop (certificate-size S) y₀)
+              ∙ omega (arith, size, length-drop (certificate-size S) y₀, size-is h);
+          list-behind =
+              ap (drop (certificate-size S)) list-is
+              ∙ drop-at y (drop (certificate-size S) y₀) (certificate-size S) size;
           rules = subst (λ (l : List ℤ). T (meets-rules S l)) (sym numbers-front) (subst T (same-rules S y) rules-met);
           bound-is = ap (bound S) numbers-front ∙ bound-is ∙ ap pos (sym t);
         }

@@ -70,12 +70,16 @@ module _ {a : List ℕ} {c : Counts} (h : Holds a c) where
   -- a test that all arcs of the sheet pass
   all-held : (t : Network → Arc → Bool) → T (all (t (network (sheet-of (h .numbers)))) (network (sheet-of (h .numbers)) .arcs))
       → (i : ℕ) → i < c .arcs → T (t (network-of a (c .nodes) (c .arcs)) (arc-at a i))
-  all-held t x = upto-all (t (network-of a (c .nodes) (c .arcs))) (c .arcs) (arc-at a) (subst (λ (N : Network). T (all (t N) (N .arcs))) (sym (network-is h)) x)
+  all-held t x =
+      upto-all (t (network-of a (c .nodes) (c .arcs))) (c .arcs) (arc-at a)
+      (subst (λ (N : Network). T (all (t N) (N .arcs))) (sym (network-is h)) x)
 
   -- each arc is within the limits
   near-at : (i : ℕ) → i < c .arcs → Near (c .nodes + 1) (arc-at a i)
   unfolding network
-  near-at i l = near-parts (c .nodes + 1) (arc-at a i) (all-held (λ N. near (N .nodes + 1)) (network-near (h .numbers) (proper h)) i l)
+  near-at i l =
+      near-parts (c .nodes + 1) (arc-at a i)
+      (all-held (λ N. near (N .nodes + 1)) (network-near (h .numbers) (proper h)) i l)
 
   -- the head of an arc is a node or ground
   pub head-in : (i : ℕ) → i < c .arcs → at a (stride * i + head-at) < c .nodes + 1
@@ -95,7 +99,13 @@ module _ {a : List ℕ} {c : Counts} (h : Holds a c) where
     some = omega arith;
     nodes = omega (arith, nodes-few);
     few = omega (arith, arcs-few);
-    arc-in = λ i l. record { tail-in = near-at i l .tail; head-in = near-at i l .head; kink-low = kink-in i l .0; kink-high = omega (arith, kink-in i l .1) };
+    arc-in =
+        λ i l. record {
+          tail-in = near-at i l .tail;
+          head-in = near-at i l .head;
+          kink-low = kink-in i l .0;
+          kink-high = omega (arith, kink-in i l .1);
+        };
   }
 
   -- so does the solver of flows

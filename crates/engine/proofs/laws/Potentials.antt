@@ -20,7 +20,8 @@ unfolding potentials-to
 potentials-none values nodes = refl
 
 -- one more
-pub potentials-next : (n : ℕ) (values nodes : List ℕ) → potentials-to (n + 1) values nodes ≡ set (potentials-to n values nodes) (node-stride * n) (at values n)
+pub potentials-next : (n : ℕ) (values nodes : List ℕ)
+    → potentials-to (n + 1) values nodes ≡ set (potentials-to n values nodes) (node-stride * n) (at values n)
 unfolding potentials-to
 potentials-next n values nodes = rw (add-one n)
 
@@ -28,10 +29,12 @@ potentials-next n values nodes = rw (add-one n)
 pub potentials-length : (n : ℕ) (values nodes : List ℕ) → length (potentials-to n values nodes) ≡ length nodes
 unfolding potentials-to
 potentials-length zero values nodes = refl
-potentials-length (suc n) values nodes = length-set (potentials-to n values nodes) (node-stride * n) (at values n) ∙ potentials-length n values nodes
+potentials-length (suc n) values nodes =
+    length-set (potentials-to n values nodes) (node-stride * n) (at values n) ∙ potentials-length n values nodes
 
 -- the number that is put for node v
-put-at : (n : ℕ) (values nodes : List ℕ) → node-stride * n ≤ length nodes → (v : ℕ) → v < n → at (potentials-to n values nodes) (node-stride * v) ≡ at values v
+put-at : (n : ℕ) (values nodes : List ℕ) → node-stride * n ≤ length nodes → (v : ℕ) → v < n
+    → at (potentials-to n values nodes) (node-stride * v) ≡ at values v
 unfolding potentials-to
 put-at zero values nodes room v h = absurd (omega arith)
 put-at (suc n) values nodes room v h =
@@ -63,4 +66,6 @@ module _ (n : ℕ) (values nodes : List ℕ) (size : length nodes ≡ node-strid
 
   -- behind the nodes
   pub potential-behind : (v : ℕ) → n ≤ v → at (potentials (potentials-to n values nodes)) v ≡ 0
-  potential-behind v past = List·getD-eq-default (potentials (potentials-to n values nodes)) 0 (omega (arith, nodes-are, column-length 0 (potentials-to n values nodes)))
+  potential-behind v past =
+      List·getD-eq-default (potentials (potentials-to n values nodes)) 0
+      (omega (arith, nodes-are, column-length 0 (potentials-to n values nodes)))

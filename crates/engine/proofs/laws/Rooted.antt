@@ -78,7 +78,9 @@ module _ {a : List ℕ} {c : Counts} (h : Holds a c) where
       let rest : T (not (finite (x .high)) && side) = and-right (eqb (x .tail) v) (not (finite (x .high)) && side) t in
       record {
         from = eqb→eq (x .tail) v (and-left (eqb (x .tail) v) (not (finite (x .high)) && side) t);
-        hard = hard-high (at a (stride * i + high-at)) (is-false (finite (x .high)) (and-left (not (finite (x .high))) side rest));
+        hard =
+            hard-high (at a (stride * i + high-at))
+            (is-false (finite (x .high)) (and-left (not (finite (x .high))) side rest));
         to =
             ⊎-elim
             (λ (past : T (leb (c .nodes) (x .head))). inl (last (x .head) (leb→le (c .nodes) (x .head) past) (head-in h i l)))

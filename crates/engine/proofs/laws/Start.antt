@@ -57,7 +57,9 @@ module _ {a : List ℕ} {c : Counts} (h : Holds a c) (values nodes : List ℕ) (
         (λ (l : v < c .nodes + 1). omega (arith, potential-is (c .nodes + 1) values nodes size v l, g .small v l, nodes-few h))
         (λ (past : c .nodes + 1 ≤ v). omega (arith, potential-behind (c .nodes + 1) values nodes size v past))
         (lt-or-le v (c .nodes + 1));
-    feasible = feasible-stored (net a (c .arcs)) (c .nodes + 1) (at (potentials ready)) q (circulation-takes h) end-is (g .lowest .feasible);
+    feasible =
+        feasible-stored (net a (c .arcs)) (c .nodes + 1) (at (potentials ready)) q (circulation-takes h) end-is
+        (g .lowest .feasible);
     rooted = rooted h;
   }
 

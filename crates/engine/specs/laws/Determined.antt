@@ -49,12 +49,16 @@ module _ (S : Sheet) (p₀ : List ℕ) (y₀ : List ℤ) where
       omega (arith, g .total-is, g .total-in, ap (total-length S) (leftmost-unique S d (take (S .nodes) p) b (g .leftmost)))
 
   -- two drawings are one
-  one-drawing : {s t : ℕ} {p q : List ℕ} {y z : List ℤ} → Returns S p₀ y₀ p y s → Returns S p₀ y₀ q z t → Same p q (Drawn.drawn s) (Drawn.drawn t)
+  one-drawing : {s t : ℕ} {p q : List ℕ} {y z : List ℤ} → Returns S p₀ y₀ p y s → Returns S p₀ y₀ q z t
+      → Same p q (Drawn.drawn s) (Drawn.drawn t)
   one-drawing {p = p} {q = q} g h =
       let same : take (S .nodes) p ≡ take (S .nodes) q = leftmost-unique S (take (S .nodes) p) (take (S .nodes) q) (g .leftmost) (h .leftmost) in
       record {
         answer = ap Drawn.drawn (g .total-is ∙ ap (total-length S) same ∙ sym (h .total-is));
-        places = sym (take-append-drop (S .nodes) p) ∙ ap₂ (λ (a b : List ℕ). a ++ b) same (g .places-behind ∙ sym (h .places-behind)) ∙ take-append-drop (S .nodes) q;
+        places =
+            sym (take-append-drop (S .nodes) p)
+            ∙ ap₂ (λ (a b : List ℕ). a ++ b) same (g .places-behind ∙ sym (h .places-behind))
+            ∙ take-append-drop (S .nodes) q;
       }
 
   -- the answers for a good sheet are the same
@@ -64,7 +68,9 @@ module _ (S : Sheet) (p₀ : List ℕ) (y₀ : List ℤ) where
   one-sheet p q y z (Drawn.refused r) (Drawn.drawn t) g h = absurd (refused-not (g .0) h)
   one-sheet p q y z (Drawn.refused r) (Drawn.refused s) g h =
       record {
-        answer = ap₂ (λ (n o : ℕ). Drawn.refused (record { number = n; offset = o })) (one-refusal S (length p₀) (length y₀) (g .0) (h .0)) (g .1 ∙ sym (h .1));
+        answer =
+            ap₂ (λ (n o : ℕ). Drawn.refused (record { number = n; offset = o }))
+            (one-refusal S (length p₀) (length y₀) (g .0) (h .0)) (g .1 ∙ sym (h .1));
         places = g .2 .0 ∙ sym (h .2 .0);
       }
 

@@ -28,7 +28,8 @@ Answered S (Outcome.undrawable list) p d = d ≡ Drawn.refused (refusal none-exi
 Answered S (Outcome.rejected coordinates list) p d = Unit {0}
 
 -- with slices that are long enough a good sheet is refused for want of a drawing only
-refused-none : (S : Sheet) (places list : ℕ) → Proper S → Room S places list → {n : ℕ} → Refuses S places list n → (n ≡ none-exists) × NoDrawing S
+refused-none : (S : Sheet) (places list : ℕ) → Proper S → Room S places list → {n : ℕ} → Refuses S places list n
+    → (n ≡ none-exists) × NoDrawing S
 refused-none S places list proper room (few-places h) = absurd (omega (arith, room .nodes))
 refused-none S places list proper room (few-numbers h) = absurd (omega (arith, room .numbers))
 refused-none S places list proper room (none r h) = (refl, h)
@@ -40,7 +41,8 @@ drawn-answer : (S : Sheet) (p₀ : List ℕ) (y₀ : List ℤ) (p : List ℕ) (y
 drawn-answer S p₀ y₀ p y coordinates total proper room l e (Drawn.drawn t) g =
     let same : take (S .nodes) p ≡ coordinates = leftmost-unique S (take (S .nodes) p) coordinates (g .leftmost) l in
     (ap Drawn.drawn (g .total-is ∙ ap (total-length S) same ∙ e), same)
-drawn-answer S p₀ y₀ p y coordinates total proper room l e (Drawn.refused r) g = absurd (refused-none S (length p₀) (length y₀) proper room (g .0) .1 coordinates (l .is-least .drawing))
+drawn-answer S p₀ y₀ p y coordinates total proper room l e (Drawn.refused r) g =
+    absurd (refused-none S (length p₀) (length y₀) proper room (g .0) .1 coordinates (l .is-least .drawing))
 
 -- the answer for a sheet without a drawing
 none-answer : (S : Sheet) (p₀ : List ℕ) (y₀ : List ℤ) (p : List ℕ) (y : List ℤ) → Proper S → Room S (length p₀) (length y₀)
@@ -62,6 +64,7 @@ row-answer r row p₀ y₀ p y d room g = go (r .outcome) (row .says)
     meets = subst (λ (x : Result). Draws x p₀ y₀ p y d) (row .read) g
 
     go : (o : Outcome) → Says (row .numbers) o → Answered (sheet-of (row .numbers)) o p d
-    go (Outcome.drawn total coordinates list) s = drawn-answer (sheet-of (row .numbers)) p₀ y₀ p y coordinates total proper room (s .leftmost) (s .sum) d meets
+    go (Outcome.drawn total coordinates list) s =
+        drawn-answer (sheet-of (row .numbers)) p₀ y₀ p y coordinates total proper room (s .leftmost) (s .sum) d meets
     go (Outcome.undrawable list) s = none-answer (sheet-of (row .numbers)) p₀ y₀ p y proper room s d meets
     go (Outcome.rejected coordinates list) s = tt

@@ -22,7 +22,8 @@ use Rattle.leb128.specs.laws.DecodeEncode.{decode-last, decode-more}
 
 -- the item at a position, where what follows the value v of weight w at next is decoded
 pub collected : List ℕ → ℕ → ℕ → ℕ → ℕ → Decoded → Item
-collected bytes at v w next (number high size) = cond (eqb high 0 && ltb at next) (refused (refusal number-form at)) (value (v + w * high) (next + size))
+collected bytes at v w next (number high size) =
+    cond (eqb high 0 && ltb at next) (refused (refusal number-form at)) (value (v + w * high) (next + size))
 collected bytes at v w next ended = refused (refusal input-ended (length bytes))
 collected bytes at v w next overlong = refused (refusal number-form at)
 
@@ -43,7 +44,8 @@ weighted : (v w low high : ℕ) → v + w * (low + 128 * high) ≡ v + w * low +
 weighted v w low high = rw (mul-add w low (128 * high), ← mul-assoc w 128 high) (sym (add-assoc v (w * low) (w * 128 * high)))
 
 -- a group that is read goes from the rest to the value
-collected-group : (bytes : List ℕ) (at v w next low : ℕ) (d : Decoded) → at ≤ next → collected bytes at v w next (grouped low d) ≡ collected bytes at (v + w * low) (w * 128) (next + 1) d
+collected-group : (bytes : List ℕ) (at v w next low : ℕ) (d : Decoded) → at ≤ next
+    → collected bytes at v w next (grouped low d) ≡ collected bytes at (v + w * low) (w * 128) (next + 1) d
 unfolding collected grouped
 collected-group bytes at v w next low (number high size) h =
     ⊎-elim
@@ -103,7 +105,9 @@ module _ {bytes : List ℕ} {at v w next left : ℕ} (state : Reading bytes at v
 
     -- the next weight is no greater than the limit
     pub weight-most : w * 128 ≤ number-limit
-    weight-most = rw heavier (pow-le-pow-right {n = 128} (lit< tt) {i = number-bytes - (left - 1)} {j = number-bytes} (omega arith))
+    weight-most =
+        rw heavier
+        (pow-le-pow-right {n = 128} (lit< tt) {i = number-bytes - (left - 1)} {j = number-bytes} (omega arith))
 
     -- a group's share of the value stays below the next weight
     pub group-most : (group : ℕ) → group < 128 → w * group + w ≤ w * 128
@@ -139,5 +143,10 @@ module _ {bytes : List ℕ} {at v w next left : ℕ} (state : Reading bytes at v
             turns = omega (arith, state .turns);
             power = heavier;
             below = omega (arith, state .below, group-most (group - 128) (omega arith));
-            same = found ∙ (ap (collected bytes at v w next) (decode-more (left - 1) group (drop (next + 1) bytes) long) ∙ collected-group bytes at v w next (group - 128) (decode (left - 1) (drop (next + 1) bytes)) (state .begun));
+            same =
+                found
+                ∙
+                (ap (collected bytes at v w next) (decode-more (left - 1) group (drop (next + 1) bytes) long)
+                ∙ collected-group bytes at v w next (group - 128) (decode (left - 1) (drop (next + 1) bytes))
+                (state .begun));
           }

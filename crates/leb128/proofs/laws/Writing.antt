@@ -95,7 +95,9 @@ module _ {old : List ℕ} {at n : ℕ} {new : List ℕ} {rest next : ℕ} (state
     pub storing-room : next + 1 < at + length (encode number-bytes n)
     storing-room = go (state .left) (state .below) (state .size)
       where
-        go : (left : ℕ) → rest < 128 ^ suc left → at + length (encode number-bytes n) ≡ next + length (encode (suc left) rest) → next + 1 < at + length (encode number-bytes n)
+        go : (left : ℕ) → rest < 128 ^ suc left
+            → at + length (encode number-bytes n) ≡ next + length (encode (suc left) rest)
+            → next + 1 < at + length (encode number-bytes n)
         go zero b e = omega arith
         go (suc left) b e = omega (arith, e, ap length (encode-more (suc left) rest long), some left (rest / 128))
 
@@ -103,7 +105,10 @@ module _ {old : List ℕ} {at n : ℕ} {new : List ℕ} {rest next : ℕ} (state
     pub storing-next : Storing old at n (set new next (rest % 128 + 128)) (rest / 128) (next + 1)
     storing-next = go (state .left) (state .below) (state .size) (state .same)
       where
-        go : (left : ℕ) → rest < 128 ^ suc left → at + length (encode number-bytes n) ≡ next + length (encode (suc left) rest) → sets old at (encode number-bytes n) ≡ sets new next (encode (suc left) rest) → Storing old at n (set new next (rest % 128 + 128)) (rest / 128) (next + 1)
+        go : (left : ℕ) → rest < 128 ^ suc left
+            → at + length (encode number-bytes n) ≡ next + length (encode (suc left) rest)
+            → sets old at (encode number-bytes n) ≡ sets new next (encode (suc left) rest)
+            → Storing old at n (set new next (rest % 128 + 128)) (rest / 128) (next + 1)
         go zero b e s = absurd (omega arith)
         go (suc left) b e s =
             record {
@@ -131,6 +136,10 @@ module _ (old : List ℕ) (at n : ℕ) where
     no-room h = rw (lt-ltb n number-limit form, lt-ltb (length old) (at + length (encode number-bytes n)) h) (refl, refl)
 
     -- the number is written
-    pub next-place : (after : ℕ) (new : List ℕ) → at + length (encode number-bytes n) ≤ length old → (after ≡ at + length (encode number-bytes n)) × (new ≡ sets old at (encode number-bytes n)) → WrittenAs old at n (Next after) new
+    pub next-place : (after : ℕ) (new : List ℕ) → at + length (encode number-bytes n) ≤ length old
+        → (after ≡ at + length (encode number-bytes n)) × (new ≡ sets old at (encode number-bytes n))
+        → WrittenAs old at n (Next after) new
     unfolding placed written
-    next-place after new h e = rw (lt-ltb n number-limit form, le-ltb (length old) (at + length (encode number-bytes n)) h) (ap Next (e .0), e .1)
+    next-place after new h e =
+        rw (lt-ltb n number-limit form, le-ltb (length old) (at + length (encode number-bytes n)) h)
+        (ap Next (e .0), e .1)

@@ -49,7 +49,9 @@ last-back : (k n : ℕ) (rest : List ℕ) → n < 128 → decode (suc k) (encode
 last-back k n rest h = rw (encode-last k n h) (decode-last k n rest h)
 
 -- decoding a group that goes on
-more-back : (k n : ℕ) (rest : List ℕ) → 128 ≤ n → decode k (encode k (n / 128) ++ rest) ≡ number (n / 128) (length (encode k (n / 128))) → decode (suc k) (encode (suc k) n ++ rest) ≡ number n (length (encode (suc k) n))
+more-back : (k n : ℕ) (rest : List ℕ) → 128 ≤ n
+    → decode k (encode k (n / 128) ++ rest) ≡ number (n / 128) (length (encode k (n / 128)))
+    → decode (suc k) (encode (suc k) n ++ rest) ≡ number n (length (encode (suc k) n))
 more-back k n rest h again =
     rw (encode-more k n h)
     (decode-more k (n % 128 + 128) (encode k (n / 128) ++ rest) (omega arith)
@@ -57,7 +59,8 @@ more-back k n rest h again =
     ∙ ap (λ (m : ℕ). number m (suc (length (encode k (n / 128))))) (omega arith))))
 
 -- decoding gives an encoded number back, and stops right behind it
-pub decode-encode : (k n : ℕ) (rest : List ℕ) → n < 128 ^ suc k → decode (suc k) (encode (suc k) n ++ rest) ≡ number n (length (encode (suc k) n))
+pub decode-encode : (k n : ℕ) (rest : List ℕ) → n < 128 ^ suc k
+    → decode (suc k) (encode (suc k) n ++ rest) ≡ number n (length (encode (suc k) n))
 decode-encode zero n rest h = last-back zero n rest h
 decode-encode (suc k) n rest h =
     ⊎-elim
@@ -108,7 +111,8 @@ last-bytes k b bytes h =
     }
 
 -- encoding a byte that goes on
-more-bytes : (k b n size : ℕ) (bytes : List ℕ) → 128 ≤ b → b < 256 → 0 < n → Encoded k n size bytes → Encoded (suc k) (b - 128 + 128 * n) (suc size) (b ∷ bytes)
+more-bytes : (k b n size : ℕ) (bytes : List ℕ) → 128 ≤ b → b < 256 → 0 < n → Encoded k n size bytes
+    → Encoded (suc k) (b - 128 + 128 * n) (suc size) (b ∷ bytes)
 more-bytes k b n size bytes low high pos r =
     let m : ℕ = b - 128 + 128 * n in
     let is-low : m % 128 + 128 ≡ b = omega arith in
@@ -135,7 +139,9 @@ encode-decode (suc k) n size (b ∷ bytes) h e =
     (λ (long : 128 ≤ b). go (encode-decode k) (decode k bytes) refl (sym (decode-more k b bytes long) ∙ e) long)
     (lt-or-le b 128)
   where
-    go : ((n size : ℕ) (bytes : List ℕ) → AreBytes bytes → decode k bytes ≡ number n size → Encoded k n size bytes) → (d : Decoded) → decode k bytes ≡ d → grouped (b - 128) d ≡ number n size → 128 ≤ b → Encoded (suc k) n size (b ∷ bytes)
+    go : ((n size : ℕ) (bytes : List ℕ) → AreBytes bytes → decode k bytes ≡ number n size → Encoded k n size bytes)
+        → (d : Decoded) → decode k bytes ≡ d → grouped (b - 128) d ≡ number n size → 128 ≤ b
+        → Encoded (suc k) n size (b ∷ bytes)
     go again (number high s) q e low =
         ⊎-elim
         (λ (z : high ≡ 0). absurd (overlong-not n size (sym (grouped-zero (b - 128) s) ∙ (rw z at e))))
@@ -160,7 +166,8 @@ decode-size (suc k) n size (b ∷ bytes) e =
     (λ (t : ltb b 128 ≡ false). go (λ m s. decode-size k m s bytes) (decode k bytes) refl (rw t at e))
     (test (ltb b 128))
   where
-    go : ((m s : ℕ) → decode k bytes ≡ number m s → (0 < s) × (s ≤ k)) → (d : Decoded) → decode k bytes ≡ d → grouped (b - 128) d ≡ number n size → (0 < size) × (size ≤ suc k)
+    go : ((m s : ℕ) → decode k bytes ≡ number m s → (0 < s) × (s ≤ k)) → (d : Decoded) → decode k bytes ≡ d
+        → grouped (b - 128) d ≡ number n size → (0 < size) × (size ≤ suc k)
     go again (number high s) q e =
         ⊎-elim
         (λ (z : high ≡ 0). absurd (overlong-not n size (sym (grouped-zero (b - 128) s) ∙ (rw z at e))))

@@ -17,7 +17,8 @@ pub decode-front : (k : ℕ) (front rest : List ℕ) → k ≤ length front → 
 unfolding decode
 decode-front zero front rest h = refl
 decode-front (suc k) [] rest h = absurd (omega arith)
-decode-front (suc k) (b ∷ front) rest h = ap (λ (d : Decoded). cond (ltb b 128) (number b 1) (grouped (b - 128) d)) (decode-front k front rest (omega arith))
+decode-front (suc k) (b ∷ front) rest h =
+    ap (λ (d : Decoded). cond (ltb b 128) (number b 1) (grouped (b - 128) d)) (decode-front k front rest (omega arith))
 
 -- groups end where those above do
 grouped-ended : (low : ℕ) (d : Decoded) → grouped low d ≡ ended → d ≡ ended

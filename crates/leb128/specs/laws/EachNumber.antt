@@ -16,11 +16,13 @@ use Rattle.leb128.specs.laws.StepCases.{checked-value}
 -- P holds of each number's form and rule, and at most m numbers follow each other
 pub data Each (P : Form → Rule → Type 0) : ℕ → Grammar → Type 0 where
   end : {m : ℕ} → Each P m done
-  each : {m : ℕ} {form : Form} {rule : Rule} {next : ℕ → Grammar} → P form rule → ((n : ℕ) → rule n ≡ 0 → Each P m (next n)) → Each P (suc m) (number form rule next)
+  each : {m : ℕ} {form : Form} {rule : Rule} {next : ℕ → Grammar} → P form rule
+      → ((n : ℕ) → rule n ≡ 0 → Each P m (next n)) → Each P (suc m) (number form rule next)
 
 module _ {P : Form → Rule → Type 0} where
   -- a number, where the bound is not told as a successor
-  pub first : {m : ℕ} {form : Form} {rule : Rule} {next : ℕ → Grammar} → 0 < m → P form rule → ((n : ℕ) → rule n ≡ 0 → Each P (m - 1) (next n)) → Each P m (number form rule next)
+  pub first : {m : ℕ} {form : Form} {rule : Rule} {next : ℕ → Grammar} → 0 < m → P form rule
+      → ((n : ℕ) → rule n ≡ 0 → Each P (m - 1) (next n)) → Each P m (number form rule next)
   first {m = zero} h p s = absurd (omega arith)
   first {m = suc m} h p s = each p (λ n ok. rw (less m) at (s n ok))
     where
@@ -33,7 +35,8 @@ module _ {P : Form → Rule → Type 0} where
   each-more {k = k} h (each {m = m} p s) = first (omega arith) p (λ n ok. each-more (omega arith) (s n ok))
 
   -- a weaker property
-  pub each-map : {Q : Form → Rule → Type 0} {m : ℕ} {grammar : Grammar} → ((form : Form) (rule : Rule) → P form rule → Q form rule) → Each P m grammar → Each Q m grammar
+  pub each-map : {Q : Form → Rule → Type 0} {m : ℕ} {grammar : Grammar}
+      → ((form : Form) (rule : Rule) → P form rule → Q form rule) → Each P m grammar → Each Q m grammar
   each-map f end = end
   each-map f (each {form = form} {rule = rule} p s) = each (f form rule p) (λ n ok. each-map f (s n ok))
 
@@ -44,7 +47,9 @@ module _ {P : Form → Rule → Type 0} where
   most-asked (each {m} {form} {rule} {next} p s) source at =
       behind (checked rule at (source form at)) refl (λ n ok after. most-asked (s n ok) source after)
     where
-      behind : (item : Item) → checked rule at (source form at) ≡ item → ((n : ℕ) → rule n ≡ 0 → (after : ℕ) → asked (next n) source after ≤ m) → suc (asked-behind item (λ n after. asked (next n) source after)) ≤ suc m
+      behind : (item : Item) → checked rule at (source form at) ≡ item
+          → ((n : ℕ) → rule n ≡ 0 → (after : ℕ) → asked (next n) source after ≤ m)
+          → suc (asked-behind item (λ n after. asked (next n) source after)) ≤ suc m
       behind (value n after) i again = omega (arith, again n (checked-value rule at n after (source form at) i .1) after)
       behind (refused r) i again = omega arith
 

@@ -32,13 +32,16 @@ after-most form bytes at n after e = rw e at (byte-steps bytes form at)
 
 module _ {P : Form → Rule → Type 0} where
   -- the position behind m numbers
-  last-most : {m : ℕ} {grammar : Grammar} {ns : List ℕ} {at last : ℕ} (bytes : List ℕ) → Each P m grammar → Chain (in-bytes bytes) grammar at ns last → last ≤ at + number-bytes * m
+  last-most : {m : ℕ} {grammar : Grammar} {ns : List ℕ} {at last : ℕ} (bytes : List ℕ) → Each P m grammar
+      → Chain (in-bytes bytes) grammar at ns last → last ≤ at + number-bytes * m
   last-most bytes end none = omega arith
-  last-most bytes (each {form = form} p s) (more {at = at} {after = after} {n = n} ok i chain) = omega (arith, after-most form bytes at n after i, last-most bytes (s n ok) chain)
+  last-most bytes (each {form = form} p s) (more {at = at} {after = after} {n = n} ok i chain) =
+      omega (arith, after-most form bytes at n after i, last-most bytes (s n ok) chain)
 
   module _ (front rest : List ℕ) where
     -- a walk looks at a front only
-    front-walk : {m : ℕ} {grammar : Grammar} → Each P m grammar → (at : ℕ) → at + number-bytes * m ≤ length front → walk grammar (in-bytes (front ++ rest)) at ≡ walk grammar (in-bytes front) at
+    front-walk : {m : ℕ} {grammar : Grammar} → Each P m grammar → (at : ℕ) → at + number-bytes * m ≤ length front
+        → walk grammar (in-bytes (front ++ rest)) at ≡ walk grammar (in-bytes front) at
     unfolding walk in-bytes
     front-walk end at h = refl
     front-walk (each {m} {form} {rule} {next} p s) at h =
@@ -50,9 +53,14 @@ module _ {P : Form → Rule → Type 0} where
 
     module _ (magic : List ℕ) {m : ℕ} {grammar : Grammar} (most : Each P m grammar) (long : length magic + number-bytes * m < length front) where
       -- what follows a front is refused alike
-      front-complete : (walk : Walk) → ((last : ℕ) (ns : List ℕ) → walk ≡ whole last ns → last < length front) → complete (length (front ++ rest)) walk ≡ complete (length front) walk
+      front-complete : (walk : Walk) → ((last : ℕ) (ns : List ℕ) → walk ≡ whole last ns → last < length front)
+          → complete (length (front ++ rest)) walk ≡ complete (length front) walk
       unfolding complete
-      front-complete (whole last ns) h = rw (lt-ltb last (length front) (h last ns refl), lt-ltb last (length (front ++ rest)) (omega (arith, h last ns refl, length-append front rest)))
+      front-complete (whole last ns) h =
+          rw (
+            lt-ltb last (length front) (h last ns refl),
+            lt-ltb last (length (front ++ rest)) (omega (arith, h last ns refl, length-append front rest)),
+          )
       front-complete (refused r) h = refl
 
       -- bytes are walked by their front
@@ -68,7 +76,8 @@ module _ {P : Form → Rule → Type 0} where
           (front-complete (walk-bytes magic grammar front) (λ last ns e. omega (arith, last-most front most (good-bytes magic grammar front last ns e .chain))))
 
   -- the first bytes are enough
-  pub front-reading : (magic : List ℕ) {m : ℕ} {grammar : Grammar} → Each P m grammar → (bytes : List ℕ) → reading magic grammar (take (length magic + number-bytes * m + 1) bytes) ≡ reading magic grammar bytes
+  pub front-reading : (magic : List ℕ) {m : ℕ} {grammar : Grammar} → Each P m grammar → (bytes : List ℕ)
+      → reading magic grammar (take (length magic + number-bytes * m + 1) bytes) ≡ reading magic grammar bytes
   unfolding reading
   front-reading magic {m} {grammar} most bytes =
       let limit : ℕ = length magic + number-bytes * m + 1 in
@@ -80,7 +89,8 @@ module _ {P : Form → Rule → Type 0} where
       (lt-or-le limit (length bytes))
 
   -- bytes that are read are no longer than the opening and so many numbers
-  pub most-bytes : (magic : List ℕ) {m : ℕ} {grammar : Grammar} → Each P m grammar → (bytes numbers : List ℕ) → reading magic grammar bytes ≡ elements numbers → length bytes ≤ length magic + number-bytes * m
+  pub most-bytes : (magic : List ℕ) {m : ℕ} {grammar : Grammar} → Each P m grammar → (bytes numbers : List ℕ)
+      → reading magic grammar bytes ≡ elements numbers → length bytes ≤ length magic + number-bytes * m
   most-bytes magic {grammar = grammar} most bytes numbers e =
       let g = good-reading magic grammar bytes numbers e in
       omega (arith, g .ends, last-most bytes most (g .good .chain))

@@ -51,7 +51,8 @@ same-self [] = refl
 same-self (x ∷ xs) = rw (eq-eqb x x refl, same-self xs)
 
 -- nothing follows a whole walk
-pub complete-good : (end : ℕ) (walk : Walk) (last : ℕ) (ns : List ℕ) → complete end walk ≡ whole last ns → (walk ≡ whole last ns) × (end ≤ last)
+pub complete-good : (end : ℕ) (walk : Walk) (last : ℕ) (ns : List ℕ) → complete end walk ≡ whole last ns
+    → (walk ≡ whole last ns) × (end ≤ last)
 unfolding complete
 complete-good end (whole at ms) last ns e =
     ⊎-elim
@@ -64,7 +65,8 @@ complete-good end (whole at ms) last ns e =
 complete-good end (refused r) last ns e = absurd (refused-not e)
 
 -- what was made was made of the numbers of a whole walk
-pub made-good : (f : List ℕ → List ℕ) (walk : Walk) (es : List ℕ) → made f walk ≡ elements es → (last : ℕ) × (ns : List ℕ) × (walk ≡ whole last ns) × (es ≡ f ns)
+pub made-good : (f : List ℕ → List ℕ) (walk : Walk) (es : List ℕ) → made f walk ≡ elements es
+    → (last : ℕ) × (ns : List ℕ) × (walk ≡ whole last ns) × (es ≡ f ns)
 unfolding made
 made-good f (whole last ns) es e = let are : es ≡ f ns = cc in (last, ns, refl, are)
 made-good f (refused r) es e = let z : _≡_ {A = ℕ} 0 1 = cc in absurd (omega arith)
@@ -77,7 +79,8 @@ module _ (magic : List ℕ) (grammar : Grammar) where
     pub chain : Chain (in-bytes bytes) grammar (length magic) ns last
 
   -- bytes with a whole walk are good
-  pub good-bytes : (bytes : List ℕ) (last : ℕ) (ns : List ℕ) → walk-bytes magic grammar bytes ≡ whole last ns → GoodBytes bytes last ns
+  pub good-bytes : (bytes : List ℕ) (last : ℕ) (ns : List ℕ) → walk-bytes magic grammar bytes ≡ whole last ns
+      → GoodBytes bytes last ns
   unfolding walk-bytes
   good-bytes bytes last ns e =
       ⊎-elim
@@ -107,7 +110,8 @@ module _ (magic : List ℕ) (grammar : Grammar) where
       record { last = m .0; good = rw are at (good-bytes bytes (m .0) (m .1) (w .0)); ends = w .1 }
 
 -- numbers that reach from a position of a list to its end are the rest of the list
-pub chain-list : {grammar : Grammar} {ns : List ℕ} {at last : ℕ} (numbers : List ℕ) → Chain (in-list numbers) grammar at ns last → length numbers ≤ last → at ≤ length numbers → ns ≡ drop at numbers
+pub chain-list : {grammar : Grammar} {ns : List ℕ} {at last : ℕ} (numbers : List ℕ)
+    → Chain (in-list numbers) grammar at ns last → length numbers ≤ last → at ≤ length numbers → ns ≡ drop at numbers
 unfolding in-list
 chain-list numbers none h k = sym (drop-of-length-le numbers h)
 chain-list numbers (more {at = at} {after = after} {n = n} {ns = ns} ok i chain) h k =
@@ -128,7 +132,9 @@ chain-list numbers (more {at = at} {after = after} {n = n} {ns = ns} ok i chain)
     item-not e = let z : _≡_ {A = ℕ} 0 1 = cc in omega arith
 
 -- a list that is written is what the grammar accepts, and is written as its opening and its bytes
-pub good-writing : (magic : List ℕ) (grammar : Grammar) (numbers bytes : List ℕ) → writing magic grammar numbers ≡ elements bytes → Accepts grammar numbers × (bytes ≡ magic ++ encoded grammar numbers)
+pub good-writing : (magic : List ℕ) (grammar : Grammar) (numbers bytes : List ℕ)
+    → writing magic grammar numbers ≡ elements bytes
+    → Accepts grammar numbers × (bytes ≡ magic ++ encoded grammar numbers)
 unfolding writing walk-list
 good-writing magic grammar numbers bytes e =
     let m = made-good (λ ns. magic ++ encoded grammar ns) (complete (length numbers) (walk grammar (in-list numbers) 0)) bytes e in
@@ -138,7 +144,8 @@ good-writing magic grammar numbers bytes e =
     (rw are at (chain-accepts chain), m .3 ∙ ap (λ (l : List ℕ). magic ++ encoded grammar l) are)
 
 -- what an answer with a count tells: the elements, how many they are, and that they have room
-pub answered-wrote : (room : ℕ) (result : Result) (count : ℕ) → answered room result ≡ Outcome.wrote count → (es : List ℕ) × (result ≡ elements es) × (count ≡ length es) × (length es ≤ room)
+pub answered-wrote : (room : ℕ) (result : Result) (count : ℕ) → answered room result ≡ Outcome.wrote count
+    → (es : List ℕ) × (result ≡ elements es) × (count ≡ length es) × (length es ≤ room)
 unfolding answered
 answered-wrote room (elements es) count e =
     ⊎-elim
@@ -153,7 +160,8 @@ answered-wrote room (elements es) count e =
 answered-wrote room (Result.refused r) count e = let z : _≡_ {A = ℕ} 0 1 = cc in absurd (omega arith)
 
 -- a refusal leaves the slice as it was
-pub filled-refused : (result : Result) (old : List ℕ) (r : Refusal) → answered (length old) result ≡ Outcome.refused r → old ≡ filled result old
+pub filled-refused : (result : Result) (old : List ℕ) (r : Refusal) → answered (length old) result ≡ Outcome.refused r
+    → old ≡ filled result old
 unfolding answered filled
 filled-refused (elements es) old r e =
     ⊎-elim
@@ -165,6 +173,7 @@ filled-refused (elements es) old r e =
 filled-refused (Result.refused s) old r e = refl
 
 -- elements that have room are written in front of the old ones
-pub filled-elements : {result : Result} {es : List ℕ} (old : List ℕ) → result ≡ elements es → length es ≤ length old → filled result old ≡ es ++ drop (length es) old
+pub filled-elements : {result : Result} {es : List ℕ} (old : List ℕ) → result ≡ elements es → length es ≤ length old
+    → filled result old ≡ es ++ drop (length es) old
 unfolding filled
 filled-elements {es = es} old e h = rw (e, le-ltb (length old) (length es) h)

@@ -27,7 +27,8 @@ module _ (numbers : List ℕ) (at : ℕ) where
   list-value h = rw (lt-ltb at (length numbers) h)
 
 -- a value in the bytes was decoded there
-value-decoded : (bytes : List ℕ) (at n after : ℕ) (d : Decoded) → decoded-item bytes at d ≡ value n after → (size : ℕ) × (d ≡ number n size) × (after ≡ at + size)
+value-decoded : (bytes : List ℕ) (at n after : ℕ) (d : Decoded) → decoded-item bytes at d ≡ value n after
+    → (size : ℕ) × (d ≡ number n size) × (after ≡ at + size)
 unfolding decoded-item
 value-decoded bytes at n after (number m size) e =
     let is-n : m ≡ n = cc in
@@ -54,12 +55,15 @@ module _ (bytes : List ℕ) (at n after : ℕ) (there : byte-item bytes at ≡ v
       rw (d .2, ← drop-drop (d .0) at bytes) (r .bytes-are)
 
 -- a number's bytes behind a front
-pub encoded-item : (front rest : List ℕ) (n : ℕ) → n < number-limit → byte-item (front ++ (encode number-bytes n ++ rest)) (length front) ≡ value n (length front + length (encode number-bytes n))
+pub encoded-item : (front rest : List ℕ) (n : ℕ) → n < number-limit
+    → byte-item (front ++ (encode number-bytes n ++ rest)) (length front) ≡ value n (length front + length (encode number-bytes n))
 unfolding byte-item decoded-item
-encoded-item front rest n h = rw (drop-append-seam front (encode number-bytes n ++ rest), decode-back number-bytes n rest (omega arith) h)
+encoded-item front rest n h =
+    rw (drop-append-seam front (encode number-bytes n ++ rest), decode-back number-bytes n rest (omega arith) h)
 
 -- what follows a front does not matter, if as many bytes of the front are left as a number may take
-pub front-item : (front rest : List ℕ) (at : ℕ) → at + number-bytes ≤ length front → byte-item (front ++ rest) at ≡ byte-item front at
+pub front-item : (front rest : List ℕ) (at : ℕ) → at + number-bytes ≤ length front
+    → byte-item (front ++ rest) at ≡ byte-item front at
 unfolding byte-item decoded-item
 front-item front rest at h =
     let enough : number-bytes ≤ length (drop at front) = omega (arith, length-drop at front) in

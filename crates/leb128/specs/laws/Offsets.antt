@@ -54,7 +54,8 @@ pub byte-steps : (bytes : List ℕ) → Steps number-bytes (in-bytes bytes)
 unfolding in-bytes raised byte-item decoded-item
 byte-steps bytes form at = go form (byte-item bytes at) refl
   where
-    shown : (d : Decoded) → decode number-bytes (drop at bytes) ≡ d → (r : Refusal) → decoded-item bytes at d ≡ Item.refused r → r .offset ≤ at + number-bytes
+    shown : (d : Decoded) → decode number-bytes (drop at bytes) ≡ d → (r : Refusal)
+        → decoded-item bytes at d ≡ Item.refused r → r .offset ≤ at + number-bytes
     shown (Decoded.number n size) i r e = let z : _≡_ {A = ℕ} 0 1 = cc in absurd (omega arith)
     shown Decoded.ended i r e =
         let is-r : r ≡ refusal input-ended (length bytes) = cc in
@@ -77,7 +78,8 @@ led-within limit n (refused r) h = h
 
 module _ {P : Form → Rule → Type 0} (step : ℕ) (source : Source) (steps : Steps step source) where
   -- a walk of at most m numbers takes a step for each
-  walk-within : {m : ℕ} {grammar : Grammar} → Each P m grammar → (at limit : ℕ) → at + step * m ≤ limit → Within limit (walk grammar source at)
+  walk-within : {m : ℕ} {grammar : Grammar} → Each P m grammar → (at limit : ℕ) → at + step * m ≤ limit
+      → Within limit (walk grammar source at)
   unfolding walk followed checked
   walk-within end at limit h = omega arith
   walk-within (each {m} {form} {rule} {next} p s) at limit h =
@@ -103,7 +105,8 @@ complete-within limit stop (whole last ns) h =
 complete-within limit stop (refused r) h = h
 
 -- what is made of a walk is refused where it is
-made-within : (limit : ℕ) (f : List ℕ → List ℕ) (w : Walk) (r : Refusal) → Within limit w → made f w ≡ Result.refused r → r .offset ≤ limit
+made-within : (limit : ℕ) (f : List ℕ → List ℕ) (w : Walk) (r : Refusal) → Within limit w → made f w ≡ Result.refused r
+    → r .offset ≤ limit
 unfolding made
 made-within limit f (whole last ns) r h e = let z : _≡_ {A = ℕ} 0 1 = cc in absurd (omega arith)
 made-within limit f (refused s) r h e = let is-r : s ≡ r = cc in rw is-r at h
@@ -117,7 +120,8 @@ opened-within limit magic bytes false false w e k h = omega arith
 
 module _ {P : Form → Rule → Type 0} {m : ℕ} {grammar : Grammar} (most : Each P m grammar) where
   -- the reader refuses no further behind the opening than so many numbers reach
-  pub reader-offsets : (magic bytes : List ℕ) (r : Refusal) → reading magic grammar bytes ≡ Result.refused r → r .offset ≤ length magic + number-bytes * m
+  pub reader-offsets : (magic bytes : List ℕ) (r : Refusal) → reading magic grammar bytes ≡ Result.refused r
+      → r .offset ≤ length magic + number-bytes * m
   unfolding reading walk-bytes
   reader-offsets magic bytes r e =
       let limit : ℕ = length magic + number-bytes * m in

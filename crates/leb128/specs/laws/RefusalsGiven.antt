@@ -54,14 +54,16 @@ module _ (P : ℕ → Type 0) where
 
     module _ (form-broken : P number-form) where
       -- bytes refuse their end and a number that is not in its form
-      decoded-refused : (bytes : List ℕ) (at : ℕ) (d : Decoded) (r : Refusal) → decoded-item bytes at d ≡ Item.refused r → P (r .number)
+      decoded-refused : (bytes : List ℕ) (at : ℕ) (d : Decoded) (r : Refusal) → decoded-item bytes at d ≡ Item.refused r
+          → P (r .number)
       unfolding decoded-item
       decoded-refused bytes at (Decoded.number n size) r e = let z : _≡_ {A = ℕ} 0 1 = cc in absurd (omega arith)
       decoded-refused bytes at Decoded.ended r e = let is-r : r ≡ refusal input-ended (length bytes) = cc in rw is-r ended
       decoded-refused bytes at Decoded.overlong r e = let is-r : r ≡ refusal number-form at = cc in rw is-r form-broken
 
       -- in any form
-      raised-refused : (form : Form) (item : Item) (r : Refusal) → (item ≡ Item.refused r → P (r .number)) → raised form item ≡ Item.refused r → P (r .number)
+      raised-refused : (form : Form) (item : Item) (r : Refusal) → (item ≡ Item.refused r → P (r .number))
+          → raised form item ≡ Item.refused r → P (r .number)
       unfolding raised
       raised-refused (Form.above base) (value n after) r h e = let z : _≡_ {A = ℕ} 0 1 = cc in absurd (omega arith)
       raised-refused (Form.above base) (Item.refused s) r h e = h e
@@ -69,10 +71,13 @@ module _ (P : ℕ → Type 0) where
       -- so does the source
       byte-source : (bytes : List ℕ) → Refuses (in-bytes bytes)
       unfolding in-bytes byte-item
-      byte-source bytes form at r e = raised-refused form (byte-item bytes at) r (decoded-refused bytes at (decode number-bytes (drop at bytes)) r) e
+      byte-source bytes form at r e =
+          raised-refused form (byte-item bytes at) r (decoded-refused bytes at (decode number-bytes (drop at bytes)) r)
+          e
 
     -- a check refuses by the source or by the rule
-    checked-refused : (form : Form) (rule : Rule) (at : ℕ) (item : Item) (r : Refusal) → Gives form rule → (item ≡ Item.refused r → P (r .number)) → checked rule at item ≡ Item.refused r → P (r .number)
+    checked-refused : (form : Form) (rule : Rule) (at : ℕ) (item : Item) (r : Refusal) → Gives form rule
+        → (item ≡ Item.refused r → P (r .number)) → checked rule at item ≡ Item.refused r → P (r .number)
     unfolding checked
     checked-refused form rule at (value n after) r gives h e =
         ⊎-elim
@@ -85,14 +90,19 @@ module _ (P : ℕ → Type 0) where
     checked-refused form rule at (Item.refused s) r gives h e = h e
 
     -- a walk refuses by its source or by a rule
-    walk-refused : {m : ℕ} {grammar : Grammar} → Each Gives m grammar → (source : Source) → Refuses source → (at : ℕ) (r : Refusal) → walk grammar source at ≡ refused r → P (r .number)
+    walk-refused : {m : ℕ} {grammar : Grammar} → Each Gives m grammar → (source : Source) → Refuses source
+        → (at : ℕ) (r : Refusal) → walk grammar source at ≡ refused r → P (r .number)
     unfolding walk followed led
     walk-refused end source h at r e = let z : _≡_ {A = ℕ} 0 1 = cc in absurd (omega arith)
     walk-refused (each {form = form} {rule = rule} {next = next} gives s) source h at r e =
         go (λ n ok after. walk-refused (s n ok) source h after r) (checked rule at (source form at)) refl e
       where
-        go : ((n : ℕ) → rule n ≡ 0 → (after : ℕ) → walk (next n) source after ≡ refused r → P (r .number)) → (item : Item) → checked rule at (source form at) ≡ item → followed item (λ n after. walk (next n) source after) ≡ refused r → P (r .number)
-        go again (value n after) i e = again n (checked-value rule at n after (source form at) i .1) after (led-refused n (walk (next n) source after) e)
+        go : ((n : ℕ) → rule n ≡ 0 → (after : ℕ) → walk (next n) source after ≡ refused r → P (r .number))
+            → (item : Item) → checked rule at (source form at) ≡ item
+            → followed item (λ n after. walk (next n) source after) ≡ refused r → P (r .number)
+        go again (value n after) i e =
+            again n (checked-value rule at n after (source form at) i .1) after
+            (led-refused n (walk (next n) source after) e)
           where
             led-refused : (n : ℕ) (w : Walk) → led n w ≡ refused r → w ≡ refused r
             led-refused n (whole last ns) e = let z : _≡_ {A = ℕ} 0 1 = cc in absurd (omega arith)
@@ -103,7 +113,8 @@ module _ (P : ℕ → Type 0) where
 
     module _ (follows : P something-follows) where
       -- what follows is refused
-      complete-refused : (stop : ℕ) (w : Walk) (r : Refusal) → (w ≡ refused r → P (r .number)) → complete stop w ≡ refused r → P (r .number)
+      complete-refused : (stop : ℕ) (w : Walk) (r : Refusal) → (w ≡ refused r → P (r .number))
+          → complete stop w ≡ refused r → P (r .number)
       unfolding complete
       complete-refused stop (whole last ns) r h e =
           ⊎-elim
@@ -126,13 +137,15 @@ module _ (P : ℕ → Type 0) where
         opened-refused false false n w r h e = let is-r : r ≡ refusal other-opening 0 = cc in rw is-r other
 
         -- what is made of a walk is refused where it is
-        made-refused : (f : List ℕ → List ℕ) (w : Walk) (r : Refusal) → (w ≡ refused r → P (r .number)) → made f w ≡ Result.refused r → P (r .number)
+        made-refused : (f : List ℕ → List ℕ) (w : Walk) (r : Refusal) → (w ≡ refused r → P (r .number))
+            → made f w ≡ Result.refused r → P (r .number)
         unfolding made
         made-refused f (whole last ns) r h e = let z : _≡_ {A = ℕ} 0 1 = cc in absurd (omega arith)
         made-refused f (refused t) r h e = let is-r : t ≡ r = cc in h (ap refused is-r)
 
         -- what the reader of a format refuses
-        pub reader-gives : {m : ℕ} {grammar : Grammar} → Each Gives m grammar → (magic bytes : List ℕ) (r : Refusal) → reading magic grammar bytes ≡ Result.refused r → P (r .number)
+        pub reader-gives : {m : ℕ} {grammar : Grammar} → Each Gives m grammar → (magic bytes : List ℕ) (r : Refusal)
+            → reading magic grammar bytes ≡ Result.refused r → P (r .number)
         unfolding reading walk-bytes
         reader-gives {grammar = grammar} gives magic bytes r e =
             made-refused (λ ns. ns) (complete (length bytes) (walk-bytes magic grammar bytes)) r
@@ -142,7 +155,8 @@ module _ (P : ℕ → Type 0) where
 
       module _ (short : P slice-short) where
         -- a short slice is refused
-        answer-refused : (room : ℕ) (f : List ℕ → List ℕ) (w : Walk) (r : Refusal) → (w ≡ refused r → P (r .number)) → answered room (made f w) ≡ Outcome.refused r → P (r .number)
+        answer-refused : (room : ℕ) (f : List ℕ → List ℕ) (w : Walk) (r : Refusal) → (w ≡ refused r → P (r .number))
+            → answered room (made f w) ≡ Outcome.refused r → P (r .number)
         unfolding answered made
         answer-refused room f (whole last ns) r h e =
             ⊎-elim
@@ -157,7 +171,9 @@ module _ (P : ℕ → Type 0) where
         answer-refused room f (refused t) r h e = let is-r : t ≡ r = cc in h (ap refused is-r)
 
         -- what the writer of a format refuses
-        pub writer-gives : {m : ℕ} {grammar : Grammar} → Each Gives m grammar → (magic numbers : List ℕ) (room : ℕ) (r : Refusal) → answered room (writing magic grammar numbers) ≡ Outcome.refused r → P (r .number)
+        pub writer-gives : {m : ℕ} {grammar : Grammar} → Each Gives m grammar
+            → (magic numbers : List ℕ) (room : ℕ) (r : Refusal)
+            → answered room (writing magic grammar numbers) ≡ Outcome.refused r → P (r .number)
         unfolding writing walk-list
         writer-gives {grammar = grammar} gives magic numbers room r e =
             answer-refused room (λ ns. magic ++ encoded grammar ns) (complete (length numbers) (walk grammar (in-list numbers) 0)) r

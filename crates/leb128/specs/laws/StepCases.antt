@@ -18,7 +18,8 @@ unfolding checked
 checked-good rule at n after ok = rw (eq-eqb (rule n) 0 ok)
 
 -- a value that breaks the rule
-pub checked-broken : (rule : Rule) (at n after : ℕ) → (rule n ≡ 0 → ⊥) → checked rule at (value n after) ≡ Item.refused (refusal (rule n) at)
+pub checked-broken : (rule : Rule) (at n after : ℕ) → (rule n ≡ 0 → ⊥)
+    → checked rule at (value n after) ≡ Item.refused (refusal (rule n) at)
 unfolding checked
 checked-broken rule at n after broken = rw (ne-eqb (rule n) 0 broken)
 
@@ -31,7 +32,8 @@ walk-not : {last : ℕ} {ns : List ℕ} {r : _} → Walk.refused r ≡ whole las
 walk-not e = let z : _≡_ {A = ℕ} 0 1 = cc in omega arith
 
 -- what passed a check was there, and meets the rule
-pub checked-value : (rule : Rule) (at n after : ℕ) (item : Item) → checked rule at item ≡ value n after → (item ≡ value n after) × (rule n ≡ 0)
+pub checked-value : (rule : Rule) (at n after : ℕ) (item : Item) → checked rule at item ≡ value n after
+    → (item ≡ value n after) × (rule n ≡ 0)
 unfolding checked
 checked-value rule at n after (value m q) e =
     ⊎-elim
@@ -44,7 +46,8 @@ checked-value rule at n after (value m q) e =
 checked-value rule at n after (Item.refused r) e = absurd (item-not e)
 
 -- one check after another is the check by both rules
-pub checked-both : (first second : Rule) (at : ℕ) (item : Item) → checked second at (checked first at item) ≡ checked (both first second) at item
+pub checked-both : (first second : Rule) (at : ℕ) (item : Item)
+    → checked second at (checked first at item) ≡ checked (both first second) at item
 unfolding checked both
 checked-both first second at (value n after) =
     ⊎-elim
@@ -54,7 +57,8 @@ checked-both first second at (value n after) =
 checked-both first second at (Item.refused r) = refl
 
 -- the numbers of a walk that a number leads
-pub led-whole : (n : ℕ) (walk : Walk) (last : ℕ) (ns : List ℕ) → led n walk ≡ whole last ns → (ms : List ℕ) × (walk ≡ whole last ms) × (ns ≡ n ∷ ms)
+pub led-whole : (n : ℕ) (walk : Walk) (last : ℕ) (ns : List ℕ) → led n walk ≡ whole last ns
+    → (ms : List ℕ) × (walk ≡ whole last ms) × (ns ≡ n ∷ ms)
 unfolding led
 led-whole n (whole at ms) last ns e =
     let is-last : at ≡ last = cc in
@@ -63,7 +67,8 @@ led-whole n (whole at ms) last ns e =
 led-whole n (Walk.refused r) last ns e = absurd (walk-not e)
 
 -- walks that go on alike
-pub followed-same : (item : Item) (one other : ℕ → ℕ → Walk) → ((n after : ℕ) → item ≡ value n after → one n after ≡ other n after) → followed item one ≡ followed item other
+pub followed-same : (item : Item) (one other : ℕ → ℕ → Walk)
+    → ((n after : ℕ) → item ≡ value n after → one n after ≡ other n after) → followed item one ≡ followed item other
 unfolding followed
 followed-same (value n after) one other h = ap (led n) (h n after refl)
 followed-same (Item.refused r) one other h = refl

@@ -69,14 +69,16 @@ dot-inflow p f =
 -- the sums over nodes and flows, exchanged
 dot-sum : (p : List ℤ) (fs : List Flow) → dot p (λ v. sum (inflow v) fs) ≡ sum (λ f. dot p (λ v. inflow v f)) fs
 dot-sum p [] = dot-zero p (λ v. pos 0) (λ v h. refl)
-dot-sum p (f ∷ fs) = dot-add p (λ v. inflow v f) (λ v. sum (inflow v) fs) ∙ ap (λ (z : ℤ). dot p (λ v. inflow v f) +ℤ z) (dot-sum p fs)
+dot-sum p (f ∷ fs) =
+    dot-add p (λ v. inflow v f) (λ v. sum (inflow v) fs) ∙ ap (λ (z : ℤ). dot p (λ v. inflow v f) +ℤ z) (dot-sum p fs)
 
 -- what the flows bring to the nodes, times the nodes' potentials, is tension times flow
 pub by-parts : (p : List ℤ) (fs : List Flow) → dot p (λ v. sum (inflow v) fs) ≡ sum (λ f. tension p (f .on) *ℤ f .amount) fs
 by-parts p fs = dot-sum p fs ∙ sum-ext (λ f. dot p (λ v. inflow v f)) (λ f. tension p (f .on) *ℤ f .amount) (dot-inflow p) fs
 
 -- where the flows balance, tension times flow adds up to 0
-pub balanced-null : (p : List ℤ) (fs : List Flow) → T (balanced (length p) fs) → sum (λ f. tension p (f .on) *ℤ f .amount) fs ≡ pos 0
+pub balanced-null : (p : List ℤ) (fs : List Flow) → T (balanced (length p) fs)
+    → sum (λ f. tension p (f .on) *ℤ f .amount) fs ≡ pos 0
 balanced-null p fs b =
     sym (by-parts p fs)
     ∙ dot-zero p (λ v. sum (inflow v) fs)

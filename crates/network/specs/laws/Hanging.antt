@@ -67,7 +67,8 @@ module _ {N : Network} (hangs : Hangs N) (q : List ℤ) (f : Feasible N q) where
   ground-zero v past = rw (List·getD-eq-default q (pos 0) {n = v} (omega (arith, f .size))) refl
 
   -- the tail of a hook is not negative where its head is not
-  carried : (a : Arc) → T (legal q a) → a .high ≡ unlimited → a .kink ≤ℤ pos 0 → down (potential q (a .head)) ≡ 0 → down (potential q (a .tail)) ≡ 0
+  carried : (a : Arc) → T (legal q a) → a .high ≡ unlimited → a .kink ≤ℤ pos 0 → down (potential q (a .head)) ≡ 0
+      → down (potential q (a .tail)) ≡ 0
   unfolding up down
   carried a l hard k h =
       omega (

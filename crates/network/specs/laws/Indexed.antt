@@ -33,7 +33,8 @@ module _ {A : Type 0} where
   pub upto-ext : (n : ℕ) (f g : ℕ → A) → ((i : ℕ) → i < n → f i ≡ g i) → upto n f ≡ upto n g
   unfolding upto
   upto-ext zero f g e = refl
-  upto-ext (suc n) f g e = ap₂ (λ (l : List A) (x : A). l ++ (x ∷ [])) (upto-ext n f g (λ i h. e i (omega arith))) (e n (omega arith))
+  upto-ext (suc n) f g e =
+      ap₂ (λ (l : List A) (x : A). l ++ (x ∷ [])) (upto-ext n f g (λ i h. e i (omega arith))) (e n (omega arith))
 
   -- the first element, and the others
   pub upto-first : (n : ℕ) (f : ℕ → A) → upto (suc n) f ≡ f 0 ∷ upto n (λ i. f (suc i))
@@ -120,7 +121,9 @@ module _ {A : Type 0} (t : A → Bool) where
   pub upto-all : (n : ℕ) (f : ℕ → A) → T (all t (upto n f)) → (i : ℕ) → i < n → T (t (f i))
   upto-all zero f a i l = absurd (omega arith)
   upto-all (suc n) f a zero l = and-left (t (f 0)) (all t (upto n (λ i. f (suc i)))) (rw (upto-first n f) at a)
-  upto-all (suc n) f a (suc i) l = upto-all n (λ i. f (suc i)) (and-right (t (f 0)) (all t (upto n (λ i. f (suc i)))) (rw (upto-first n f) at a)) i (omega arith)
+  upto-all (suc n) f a (suc i) l =
+      upto-all n (λ i. f (suc i)) (and-right (t (f 0)) (all t (upto n (λ i. f (suc i)))) (rw (upto-first n f) at a)) i
+      (omega arith)
 
 -- an element by index
 pub upto-in : {A : Type 0} (d : A) (n : ℕ) (f : ℕ → A) (i : ℕ) → i < n → getD (upto n f) i d ≡ f i

@@ -67,7 +67,9 @@ arc-ext e f g = rw (e, f, g)
 
 -- the kink of a storable arc is small
 kink-small : (a : Arc) → T (storable a) → natAbs (a .kink) < kink-zero
-kink-small a t = ltb→lt (natAbs (a .kink)) kink-zero (and-left (ltb (natAbs (a .kink)) kink-zero) (inside (a .low) && inside (a .high)) t)
+kink-small a t =
+    ltb→lt (natAbs (a .kink)) kink-zero
+    (and-left (ltb (natAbs (a .kink)) kink-zero) (inside (a .low) && inside (a .high)) t)
 
 -- an arc, read back
 arc-back : (a : Arc) → T (storable a)
@@ -102,4 +104,5 @@ pub kinks-in : (xs : List Arc) (rest : List ℕ) → T (all storable xs) → (i 
 unfolding packs
 kinks-in [] rest t i h = absurd (omega arith)
 kinks-in (x ∷ xs) rest t zero h = raised-in kink-zero (x .kink) (kink-small x (and-left (storable x) (all storable xs) t)) .1
-kinks-in (x ∷ xs) rest t (suc i) h = rw (next-at i kink-at) (kinks-in xs rest (and-right (storable x) (all storable xs) t) i (omega arith))
+kinks-in (x ∷ xs) rest t (suc i) h =
+    rw (next-at i kink-at) (kinks-in xs rest (and-right (storable x) (all storable xs) t) i (omega arith))

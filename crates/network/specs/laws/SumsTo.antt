@@ -12,7 +12,8 @@ use Rattle.network.specs.Sums.{sum-to}
 use Rattle.network.specs.Net.{at}
 
 -- an element after a store: the stored one, or another that is as it was
-pub at-set : (v : List ℕ) (h x u : ℕ) → h < length v → ((u ≡ h) × (at (set v h x) u ≡ x)) ⊎ ((u ≡ h → ⊥) × (at (set v h x) u ≡ at v u))
+pub at-set : (v : List ℕ) (h x u : ℕ) → h < length v
+    → ((u ≡ h) × (at (set v h x) u ≡ x)) ⊎ ((u ≡ h → ⊥) × (at (set v h x) u ≡ at v u))
 at-set v h x u l = go (ℕ-discrete u h)
   where
     go : Dec (u ≡ h) → ((u ≡ h) × (at (set v h x) u ≡ x)) ⊎ ((u ≡ h → ⊥) × (at (set v h x) u ≡ at v u))
@@ -45,7 +46,8 @@ sum-to-eq zero f g b = refl
 sum-to-eq (suc n) f g b = omega (arith, b n (le-refl _), sum-to-eq n f g (λ u u-in. b u (omega arith)))
 
 -- a sum-to after a change at one place
-pub sum-to-change : (n : ℕ) (f g : ℕ → ℕ) (u : ℕ) → u < n → ((w : ℕ) → w < n → (w ≡ u → ⊥) → f w ≡ g w) → sum-to n f + g u ≡ sum-to n g + f u
+pub sum-to-change : (n : ℕ) (f g : ℕ → ℕ) (u : ℕ) → u < n → ((w : ℕ) → w < n → (w ≡ u → ⊥) → f w ≡ g w)
+    → sum-to n f + g u ≡ sum-to n g + f u
 unfolding sum-to
 sum-to-change zero f g u u-in others = omega arith
 sum-to-change (suc n) f g u u-in others =
@@ -57,7 +59,8 @@ sum-to-change (suc n) f g u u-in others =
     (λ below. omega (arith, others n (le-refl _) (omega arith), sum-to-change n f g u below (λ w w-in ne. others w (omega arith) ne)))
 
 -- a sum-to over a list's elements, after a store
-pub sum-to-set : (n : ℕ) (F : ℕ → ℕ → ℕ) (v : List ℕ) (i a : ℕ) → i < n → i < length v → sum-to n (λ w. F w (at (set v i a) w)) + F i (at v i) ≡ sum-to n (λ w. F w (at v w)) + F i a
+pub sum-to-set : (n : ℕ) (F : ℕ → ℕ → ℕ) (v : List ℕ) (i a : ℕ) → i < n → i < length v
+    → sum-to n (λ w. F w (at (set v i a) w)) + F i (at v i) ≡ sum-to n (λ w. F w (at v w)) + F i a
 sum-to-set n F v i a l in-list =
     let same : F i (at (set v i a) i) ≡ F i a = ap (F i) (getD-set-same v i a 0 in-list) in
     omega (arith, sum-to-change n (λ w. F w (at (set v i a) w)) (λ w. F w (at v w)) i l (λ w w-in ne. ap (F w) (getD-set-other v i w a 0 ne)))

@@ -73,7 +73,8 @@ module _ {bytes numbers : List ℕ} {c : Cursor} {layers : ℕ} {step : Step} (c
           }
 
       -- the kind ends the edge
-      pub edge-read : {m : ℕ} {c₃ : Cursor} {answer : Step} → lower ≡ Value m c₃ → Limited bytes numbers c₃ 0 max-kind answer → Edge bytes numbers c (take layers counts) answer
+      pub edge-read : {m : ℕ} {c₃ : Cursor} {answer : Step} → lower ≡ Value m c₃
+          → Limited bytes numbers c₃ 0 max-kind answer → Edge bytes numbers c (take layers counts) answer
       unfolding edge
       edge-read is-lower last =
           record {
@@ -90,14 +91,18 @@ pub record EdgesLeft (bytes numbers counts : List ℕ) (start : Cursor) (n : ℕ
   pub same : walk-from bytes numbers c (edges (n - i) counts) ≡ walk-from bytes numbers start (edges n counts)
 
 -- no edge is read at the start
-pub edges-begin : {start : Cursor} (bytes numbers counts : List ℕ) (n : ℕ) → Counted start → EdgesLeft bytes numbers counts start n start 0
+pub edges-begin : {start : Cursor} (bytes numbers counts : List ℕ) (n : ℕ) → Counted start
+    → EdgesLeft bytes numbers counts start n start 0
 edges-begin bytes numbers counts n h = record { counted = h; turns = omega arith; same = rw sub-zero }
 
 module _ {bytes numbers counts : List ℕ} {start c : Cursor} {n i : ℕ} (left : EdgesLeft bytes numbers counts start n c i) where
   -- all edges are read
   pub edges-end : (m : ℕ) → n ≤ i → walked (Value m c) ≡ walk-from bytes numbers start (edges n counts)
   unfolding edges
-  edges-end m h = sym (walk-done bytes numbers c) ∙ (sym (ap (λ (k : ℕ). walk-from bytes numbers c (edges k counts)) {x = n - i} {y = 0} (omega arith)) ∙ left .same)
+  edges-end m h =
+      sym (walk-done bytes numbers c)
+      ∙
+      (sym (ap (λ (k : ℕ). walk-from bytes numbers c (edges k counts)) {x = n - i} {y = 0} (omega arith)) ∙ left .same)
 
   module _ {step : Step} (more : i < n) (read : Edge bytes numbers c counts step) where
     -- an edge is read, and the others follow

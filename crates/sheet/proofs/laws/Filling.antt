@@ -28,7 +28,8 @@ use Rattle.sheet.proofs.laws.Written.{Written, written-begin, written-l
 -- these numbers stand in the bytes, one behind the other
 pub data Row (bytes : List ℕ) : ℕ → List ℕ → Type 0 where
   stop : {at : ℕ} → Row bytes at []
-  next : {at after n : ℕ} {ns : List ℕ} → byte-item bytes at ≡ value n after → n < list-limit → Row bytes after ns → Row bytes at (n ∷ ns)
+  next : {at after n : ℕ} {ns : List ℕ} → byte-item bytes at ≡ value n after → n < list-limit → Row bytes after ns
+      → Row bytes at (n ∷ ns)
 
 -- a plain number is what the bytes hold
 plain-item : (bytes : List ℕ) (form : Form) (at : ℕ) → form ≡ plain → in-bytes bytes form at ≡ byte-item bytes at
@@ -36,9 +37,11 @@ unfolding in-bytes
 plain-item bytes form at e = rw e (plain-raised (byte-item bytes at))
 
 -- a sheet's numbers stand in its bytes
-chain-row : {m : ℕ} {grammar : Grammar} {at last : ℕ} {ns : List ℕ} (bytes : List ℕ) → Each SheetNumber m grammar → Chain (in-bytes bytes) grammar at ns last → Row bytes at ns
+chain-row : {m : ℕ} {grammar : Grammar} {at last : ℕ} {ns : List ℕ} (bytes : List ℕ) → Each SheetNumber m grammar
+    → Chain (in-bytes bytes) grammar at ns last → Row bytes at ns
 chain-row bytes end none = stop
-chain-row bytes (each {form = form} p s) (more {at = at} {n = n} ok i chain) = next (sym (plain-item bytes form at (p .is-plain)) ∙ i) (p .small n ok .1) (chain-row bytes (s n ok) chain)
+chain-row bytes (each {form = form} p s) (more {at = at} {n = n} ok i chain) =
+    next (sym (plain-item bytes form at (p .is-plain)) ∙ i) (p .small n ok .1) (chain-row bytes (s n ok) chain)
 
 -- i of count numbers are written, and the rest stands in the bytes from a position on
 pub record FillLeft (bytes : List ℕ) (count : ℕ) (old new : List ℕ) (at i : ℕ) : Type 0 where
@@ -50,7 +53,8 @@ pub record FillLeft (bytes : List ℕ) (count : ℕ) (old new : List ℕ) (at i 
   pub written : Written wanted old new rest i
 
 -- nothing is written at the start
-pub fill-begin : {bytes : List ℕ} {count : ℕ} (old : List ℕ) → Holds bytes count → count ≤ length old → FillLeft bytes count old old (length magic) 0
+pub fill-begin : {bytes : List ℕ} {count : ℕ} (old : List ℕ) → Holds bytes count → count ≤ length old
+    → FillLeft bytes count old old (length magic) 0
 fill-begin {bytes} {count} old h room =
     record {
       wanted = h .numbers;
@@ -79,7 +83,8 @@ module _ {bytes : List ℕ} {count : ℕ} {old new : List ℕ} {at i : ℕ} (lef
 
   module _ (found : Found) (more : i < count) (is-found : item found ≡ byte-item bytes at) where
     -- the next number of the row
-    fill-row : (rest : List ℕ) → Row bytes at rest → Written (left .wanted) old new rest i → (n after : ℕ) → byte-item bytes at ≡ value n after → FillNext bytes count old new i n after
+    fill-row : (rest : List ℕ) → Row bytes at rest → Written (left .wanted) old new rest i → (n after : ℕ)
+        → byte-item bytes at ≡ value n after → FillNext bytes count old new i n after
     fill-row [] stop w n after e = absurd (omega (arith, written-length w, left .counted))
     fill-row (m ∷ ms) (next {after = q} there small row) w n after e =
         let f : value m q ≡ value n after = sym there ∙ e in

@@ -28,22 +28,26 @@ pub record Here (step : Step) (c : Cursor) : Type 0 where
 pub record PairsLeft (bytes numbers : List ℕ) (start : Cursor) (nodes first : ℕ) (step : Step) (c : Cursor) (pair : ℕ) : Type 0 where
   pub here : Here step c
   pub turns : pair ≤ nodes
-  pub same : (next : Grammar) → walk-from bytes numbers c (separations (nodes - pair) next) ≡ walk-from bytes numbers start (separations (nodes - first) next)
+  pub same : (next : Grammar)
+      → walk-from bytes numbers c (separations (nodes - pair) next) ≡ walk-from bytes numbers start (separations (nodes - first) next)
 
 -- no pair is read at the start
-pub pairs-begin : {bytes numbers : List ℕ} {c : Cursor} {nodes first : ℕ} {step : Step} → Here step c → first ≤ nodes → PairsLeft bytes numbers c nodes first step c first
+pub pairs-begin : {bytes numbers : List ℕ} {c : Cursor} {nodes first : ℕ} {step : Step} → Here step c → first ≤ nodes
+    → PairsLeft bytes numbers c nodes first step c first
 pairs-begin here h = record { here = here; turns = h; same = λ next. refl }
 
 module _ {bytes numbers : List ℕ} {start c : Cursor} {nodes first pair : ℕ} {before step : Step} (left : PairsLeft bytes numbers start nodes first before c pair) (more : pair < nodes) (read : Separation bytes numbers c step) where
   -- a pair is read, and the others follow
-  pair-on : (next : Grammar) → onward bytes numbers step (λ m. separations (nodes - (pair + 1)) next) ≡ walk-from bytes numbers start (separations (nodes - first) next)
+  pair-on : (next : Grammar)
+      → onward bytes numbers step (λ m. separations (nodes - (pair + 1)) next) ≡ walk-from bytes numbers start (separations (nodes - first) next)
   unfolding separations
   pair-on next =
       let e : nodes - pair ≡ suc (nodes - (pair + 1)) = omega arith in
       sym (read .reads .follows (λ m. separations (nodes - (pair + 1)) next)) ∙ rw e at (left .same next)
 
   -- a pair is read
-  pub pair-next : {m : ℕ} {next : Cursor} → step ≡ Value m next → PairsLeft bytes numbers start nodes first (Value m next) next (pair + 1)
+  pub pair-next : {m : ℕ} {next : Cursor} → step ≡ Value m next
+      → PairsLeft bytes numbers start nodes first (Value m next) next (pair + 1)
   unfolding onward
   pair-next {m} e = record { here = record { last = m; is = refl; counted = good-value (read .reads) e .0 }; turns = omega arith; same = λ next. rw e at (pair-on next) }
 
@@ -52,14 +56,17 @@ pub record LayersLeft (bytes numbers : List ℕ) (start : Cursor) (n : ℕ) (cou
   pub here : Here step c
   pub turns : i ≤ n
   pub fits : n ≤ length counts
-  pub same : (next : List ℕ → Grammar) → walk-from bytes numbers c (layers (n - i) room (take i counts) next) ≡ walk-from bytes numbers start (layers n max-nodes [] next)
+  pub same : (next : List ℕ → Grammar)
+      → walk-from bytes numbers c (layers (n - i) room (take i counts) next) ≡ walk-from bytes numbers start (layers n max-nodes [] next)
 
 -- no layer is read at the start
-pub layers-begin : {bytes numbers : List ℕ} {start : Cursor} {n : ℕ} {counts : List ℕ} {step : Step} → Here step start → n ≤ length counts → LayersLeft bytes numbers start n counts step start max-nodes 0
+pub layers-begin : {bytes numbers : List ℕ} {start : Cursor} {n : ℕ} {counts : List ℕ} {step : Step} → Here step start
+    → n ≤ length counts → LayersLeft bytes numbers start n counts step start max-nodes 0
 layers-begin here h = record { here = here; turns = omega arith; fits = h; same = λ next. rw sub-zero }
 
 -- all layers are read
-pub layers-end : {bytes numbers : List ℕ} {start : Cursor} {n : ℕ} {counts : List ℕ} {step : Step} {c : Cursor} {room i : ℕ} → LayersLeft bytes numbers start n counts step c room i → n ≤ i → LayersRead bytes numbers start n counts step
+pub layers-end : {bytes numbers : List ℕ} {start : Cursor} {n : ℕ} {counts : List ℕ} {step : Step} {c : Cursor} {room i : ℕ}
+    → LayersLeft bytes numbers start n counts step c room i → n ≤ i → LayersRead bytes numbers start n counts step
 unfolding layers onward
 layers-end {bytes} {numbers} {n = n} {counts} {c = c} {room} {i} left h =
     let e : n - i ≡ 0 = omega arith in
@@ -68,7 +75,8 @@ layers-end {bytes} {numbers} {n = n} {counts} {c = c} {room} {i} left h =
 
 module _ {bytes numbers : List ℕ} {start c : Cursor} {n room i : ℕ} {counts : List ℕ} {before step : Step} (left : LayersLeft bytes numbers start n counts before c room i) (more : i < n) (read : Limited bytes numbers c 1 (min max-layer-nodes room) step) where
   -- a count is read, and its pairs follow
-  count-on : (next : List ℕ → Grammar) → onward bytes numbers step (λ nodes. separations (nodes - 1) (layers (n - (i + 1)) (room - nodes) (take i counts ++ nodes ∷ []) next)) ≡ walk-from bytes numbers start (layers n max-nodes [] next)
+  count-on : (next : List ℕ → Grammar)
+      → onward bytes numbers step (λ nodes. separations (nodes - 1) (layers (n - (i + 1)) (room - nodes) (take i counts ++ nodes ∷ []) next)) ≡ walk-from bytes numbers start (layers n max-nodes [] next)
   unfolding layers
   count-on next =
       let e : n - i ≡ suc (n - (i + 1)) = omega arith in
@@ -82,7 +90,8 @@ module _ {bytes numbers : List ℕ} {start c : Cursor} {n room i : ℕ} {counts 
   -- a count is read, and its pairs are begun
   module _ {nodes : ℕ} {first : Cursor} (is-count : step ≡ Value nodes first) where
     -- a count is stored, and its pairs follow
-    layer-on : (next : List ℕ → Grammar) → walk-from bytes numbers first (separations (nodes - 1) (layers (n - (i + 1)) (room - nodes) (take (i + 1) (set counts i nodes)) next)) ≡ walk-from bytes numbers start (layers n max-nodes [] next)
+    layer-on : (next : List ℕ → Grammar)
+        → walk-from bytes numbers first (separations (nodes - 1) (layers (n - (i + 1)) (room - nodes) (take (i + 1) (set counts i nodes)) next)) ≡ walk-from bytes numbers start (layers n max-nodes [] next)
     unfolding onward
     layer-on next =
         let longer : take (i + 1) (set counts i nodes) ≡ take i counts ++ nodes ∷ [] = rw add-one (take-suc-set counts i nodes (omega (arith, left .fits))) in
@@ -98,15 +107,23 @@ module _ {bytes numbers : List ℕ} {start c : Cursor} {n room i : ℕ} {counts 
             here = pairs .here;
             turns = omega arith;
             fits = simp length-set (left .fits);
-            same = λ next. (rw e at (pairs .same (layers (n - (i + 1)) (room - nodes) (take (i + 1) (set counts i nodes)) next))) ∙ layer-on next;
+            same =
+                λ next. (rw e at (pairs .same (layers (n - (i + 1)) (room - nodes) (take (i + 1) (set counts i nodes)) next)))
+                ∙ layer-on next;
           }
 
       -- a pair is refused
-      pub pair-refused : {r : Refusal} {answer : Step} → pair < nodes → Separation bytes numbers at answer → answer ≡ Refused r → LayersRead bytes numbers start n (set counts i nodes) answer
+      pub pair-refused : {r : Refusal} {answer : Step} → pair < nodes → Separation bytes numbers at answer
+          → answer ≡ Refused r → LayersRead bytes numbers start n (set counts i nodes) answer
       unfolding onward
       pair-refused h separation e =
           rw e
           (record {
-            follows = λ next. sym (rw e at (pair-on pairs h separation (layers (n - (i + 1)) (room - nodes) (take (i + 1) (set counts i nodes)) next)) ∙ layer-on next);
+            follows =
+                λ next. sym
+                (rw e at
+                (pair-on pairs h separation
+                (layers (n - (i + 1)) (room - nodes) (take (i + 1) (set counts i nodes)) next))
+                ∙ layer-on next);
             good = tt;
           })

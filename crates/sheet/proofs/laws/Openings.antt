@@ -15,7 +15,8 @@ use Rattle.sheet.specs.Grammar.{sheet}
 use Rattle.sheet.specs.inside.Cursor.{Measure, measured, walk-from}
 
 -- the opening, byte by byte
-pub opening : (bytes : List ℕ) → length magic ≤ length bytes → same (take (length magic) bytes) magic ≡ (eqb (getD bytes 0 0) (getD magic 0 0) && (eqb (getD bytes 1 0) (getD magic 1 0) && eqb (getD bytes 2 0) (getD magic 2 0)))
+pub opening : (bytes : List ℕ) → length magic ≤ length bytes
+    → same (take (length magic) bytes) magic ≡ (eqb (getD bytes 0 0) (getD magic 0 0) && (eqb (getD bytes 1 0) (getD magic 1 0) && eqb (getD bytes 2 0) (getD magic 2 0)))
 unfolding same
 opening [] h = absurd (omega arith)
 opening (a ∷ []) h = absurd (omega arith)
@@ -24,22 +25,28 @@ opening (a ∷ b ∷ c ∷ rest) h = rw and-true
 
 module _ (bytes : List ℕ) where
   -- the opening is not whole
-  pub too-short : length bytes < length magic → Measure.refused (refusal input-ended (length bytes)) ≡ measured true 0 (walk-bytes magic sheet bytes)
+  pub too-short : length bytes < length magic
+      → Measure.refused (refusal input-ended (length bytes)) ≡ measured true 0 (walk-bytes magic sheet bytes)
   unfolding walk-bytes measured
   too-short h = rw (lt-ltb (length bytes) (length magic) h)
 
   module _ (long : length magic ≤ length bytes) where
     -- another opening
-    pub opens-not : same (take (length magic) bytes) magic ≡ false → Measure.refused (refusal other-opening 0) ≡ measured true 0 (walk-bytes magic sheet bytes)
+    pub opens-not : same (take (length magic) bytes) magic ≡ false
+        → Measure.refused (refusal other-opening 0) ≡ measured true 0 (walk-bytes magic sheet bytes)
     unfolding walk-bytes measured
     opens-not e = rw (le-ltb (length bytes) (length magic) long, e)
 
     -- the walk along bytes starts behind the opening
-    pub bytes-walked : (numbers : List ℕ) (answer : Measure) → same (take (length magic) bytes) magic ≡ true → answer ≡ walk-from bytes numbers (record { encoded = true; at = length magic; count = 0 }) sheet → answer ≡ measured true 0 (walk-bytes magic sheet bytes)
+    pub bytes-walked : (numbers : List ℕ) (answer : Measure) → same (take (length magic) bytes) magic ≡ true
+        → answer ≡ walk-from bytes numbers (record { encoded = true; at = length magic; count = 0 }) sheet
+        → answer ≡ measured true 0 (walk-bytes magic sheet bytes)
     unfolding walk-bytes walk-from
     bytes-walked numbers answer e w = rw (le-ltb (length bytes) (length magic) long, e) w
 
 -- the walk along a list starts at its front
-pub list-walked : (bytes numbers : List ℕ) (answer : Measure) → answer ≡ walk-from bytes numbers (record { encoded = false; at = 0; count = length magic }) sheet → answer ≡ measured false (length magic) (walk-list sheet numbers)
+pub list-walked : (bytes numbers : List ℕ) (answer : Measure)
+    → answer ≡ walk-from bytes numbers (record { encoded = false; at = 0; count = length magic }) sheet
+    → answer ≡ measured false (length magic) (walk-list sheet numbers)
 unfolding walk-list walk-from
 list-walked bytes numbers answer w = w

@@ -24,7 +24,9 @@ module _ (old : List ℕ) (at n : ℕ) (form : n < number-limit) (room : at + le
   placed-next = rw (lt-ltb n number-limit form, le-ltb (length old) (at + length (encode number-bytes n)) room)
 
   -- the number writer's answer and slice
-  pub put-done : {answer : Placed} {next : ℕ} {new : List ℕ} → answer ≡ Next next → (answer ≡ placed (length old) at n) × (new ≡ written (placed (length old) at n) old at n) → (next ≡ at + length (encode number-bytes n)) × (new ≡ sets old at (encode number-bytes n))
+  pub put-done : {answer : Placed} {next : ℕ} {new : List ℕ} → answer ≡ Next next
+      → (answer ≡ placed (length old) at n) × (new ≡ written (placed (length old) at n) old at n)
+      → (next ≡ at + length (encode number-bytes n)) × (new ≡ sets old at (encode number-bytes n))
   unfolding written
   put-done {answer} {next} e w =
       let f : Next next ≡ Next (at + length (encode number-bytes n)) = sym e ∙ (w .0 ∙ placed-next) in
@@ -32,7 +34,8 @@ module _ (old : List ℕ) (at n : ℕ) (form : n < number-limit) (room : at + le
       (is-next, rw placed-next at (w .1))
 
 -- the next number's bytes, and those behind
-next-bytes : (ns : List ℕ) (i : ℕ) → i < length ns → encode-all (drop i ns) ≡ encode number-bytes (getD ns i 0) ++ encode-all (drop (i + 1) ns)
+next-bytes : (ns : List ℕ) (i : ℕ) → i < length ns
+    → encode-all (drop i ns) ≡ encode number-bytes (getD ns i 0) ++ encode-all (drop (i + 1) ns)
 unfolding encode-all
 next-bytes ns i h = rw (add-one, drop-cons ns i 0 h)
 
@@ -47,7 +50,8 @@ pub record PutLeft (ns old new : List ℕ) (at i : ℕ) : Type 0 where
   pub written : Written (take (length magic) old ++ encode-all ns) old new (encode-all (drop i ns)) at
 
 -- the length of what is wanted
-numbers-length : (ns old : List ℕ) → length magic ≤ length old → length (take (length magic) old ++ encode-all ns) ≡ length magic + length (encode-all ns)
+numbers-length : (ns old : List ℕ) → length magic ≤ length old
+    → length (take (length magic) old ++ encode-all ns) ≡ length magic + length (encode-all ns)
 numbers-length ns old h = length-append (take (length magic) old) (encode-all ns) ∙ rw (length-take-le (length magic) old h)
 
 -- no number is written at the start
@@ -59,24 +63,30 @@ put-begin ns old h =
     }
 
 -- the next number has room
-pub put-room : {ns old new : List ℕ} {at i : ℕ} → PutLeft ns old new at i → i < length ns → at + length (encode number-bytes (getD ns i 0)) ≤ length new
+pub put-room : {ns old new : List ℕ} {at i : ℕ} → PutLeft ns old new at i → i < length ns
+    → at + length (encode number-bytes (getD ns i 0)) ≤ length new
 put-room {ns} {old} {new} {at} {i} left h =
     omega (arith, written-length (left .written), left .written .fits, left .written .same-length, ap length (next-bytes ns i h) ∙ length-append (encode number-bytes (getD ns i 0)) (encode-all (drop (i + 1) ns)))
 
 -- a number is written
-pub put-next : {ns old new new′ : List ℕ} {at at′ i : ℕ} → PutLeft ns old new at i → i < length ns → (at′ ≡ at + length (encode number-bytes (getD ns i 0))) × (new′ ≡ sets new at (encode number-bytes (getD ns i 0))) → PutLeft ns old new′ at′ (i + 1)
+pub put-next : {ns old new new′ : List ℕ} {at at′ i : ℕ} → PutLeft ns old new at i → i < length ns
+    → (at′ ≡ at + length (encode number-bytes (getD ns i 0))) × (new′ ≡ sets new at (encode number-bytes (getD ns i 0)))
+    → PutLeft ns old new′ at′ (i + 1)
 put-next {ns} {old} {new} {at = at} {i = i} left h e =
     rw (e .0, e .1) (record { turns = omega arith; written = written-all (encode number-bytes (getD ns i 0)) new at (rw (next-bytes ns i h) at (left .written)) })
 
 -- all numbers are written
-pub put-end : {ns old new : List ℕ} {at i : ℕ} → PutLeft ns old new at i → length magic ≤ length old → length ns ≤ i → new ≡ (take (length magic) old ++ encode-all ns) ++ drop (length magic + length (encode-all ns)) old
+pub put-end : {ns old new : List ℕ} {at i : ℕ} → PutLeft ns old new at i → length magic ≤ length old → length ns ≤ i
+    → new ≡ (take (length magic) old ++ encode-all ns) ++ drop (length magic + length (encode-all ns)) old
 put-end {ns} {old} {new} {at} {i} left long h =
     let w = written-end (rw (no-bytes ns i h) at (left .written)) in
     let e : at ≡ length magic + length (encode-all ns) = w .1 ∙ numbers-length ns old long in
     rw e at (w .0)
 
 -- the opening and the numbers
-pub put-both : (ns old middle new : List ℕ) → length magic ≤ length old → middle ≡ sets old 0 magic → new ≡ (take (length magic) middle ++ encode-all ns) ++ drop (length magic + length (encode-all ns)) middle → new ≡ (magic ++ encode-all ns) ++ drop (length (magic ++ encode-all ns)) old
+pub put-both : (ns old middle new : List ℕ) → length magic ≤ length old → middle ≡ sets old 0 magic
+    → new ≡ (take (length magic) middle ++ encode-all ns) ++ drop (length magic + length (encode-all ns)) middle
+    → new ≡ (magic ++ encode-all ns) ++ drop (length (magic ++ encode-all ns)) old
 put-both ns [] middle new h e w = absurd (omega arith)
 put-both ns (a ∷ []) middle new h e w = absurd (omega arith)
 put-both ns (a ∷ b ∷ []) middle new h e w = absurd (omega arith)

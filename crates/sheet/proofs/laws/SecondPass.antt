@@ -23,19 +23,22 @@ use Rattle.sheet.specs.laws.SheetNumbers.{SheetNumber, each-sheet}
 use Rattle.sheet.proofs.laws.Settling.{flat}
 
 -- a refusal leaves the slice as it was
-pub refused-kept : {answer : Answer} {r : Refusal} (result : Result) (old : List ℕ) → outcome answer ≡ answered (length old) result → answer ≡ Refused r → old ≡ filled result old
+pub refused-kept : {answer : Answer} {r : Refusal} (result : Result) (old : List ℕ)
+    → outcome answer ≡ answered (length old) result → answer ≡ Refused r → old ≡ filled result old
 unfolding outcome
 refused-kept {r = r} result old e is = filled-refused result old r (sym e ∙ ap outcome is)
 
 -- accepted numbers have a form
-below-limit : {m : ℕ} {grammar : Grammar} {ns : List ℕ} → Each SheetNumber m grammar → Accepts grammar ns → (i : ℕ) → getD ns i 0 < number-limit
+below-limit : {m : ℕ} {grammar : Grammar} {ns : List ℕ} → Each SheetNumber m grammar → Accepts grammar ns → (i : ℕ)
+    → getD ns i 0 < number-limit
 below-limit end nil i = omega arith
 below-limit (each p s) (one {n = n} ok rest) zero = p .small n ok .0
 below-limit (each p s) (one {n = n} ok rest) (suc i) = below-limit (s n ok) rest i
 
 module _ {answer : Answer} {count : ℕ} (old : List ℕ) (is-done : answer ≡ Done count) where
   -- the bytes are good, and their numbers have room
-  pub read-done : (bytes : List ℕ) → outcome answer ≡ answered (length old) (reading magic sheet bytes) → Holds bytes count × (count ≤ length old)
+  pub read-done : (bytes : List ℕ) → outcome answer ≡ answered (length old) (reading magic sheet bytes)
+      → Holds bytes count × (count ≤ length old)
   unfolding outcome
   read-done bytes e =
       let w = answered-wrote (length old) (reading magic sheet bytes) count (sym e ∙ ap outcome is-done) in
@@ -52,5 +55,10 @@ module _ {answer : Answer} {count : ℕ} (old : List ℕ) (is-done : answer ≡ 
         (w .1 ∙ ap elements are, below-limit each-sheet (g .0), omega (arith, w .3, ap length are, length-append magic (encode-all numbers)))
 
     -- the sheet is written in front of the old bytes
-    pub write-filled : {new : List ℕ} → new ≡ (magic ++ encode-all numbers) ++ drop (length (magic ++ encode-all numbers)) old → new ≡ filled (writing magic sheet numbers) old
-    write-filled n = n ∙ sym (filled-elements old (write-done .0) (omega (arith, write-done .2, length-append magic (encode-all numbers))))
+    pub write-filled : {new : List ℕ}
+        → new ≡ (magic ++ encode-all numbers) ++ drop (length (magic ++ encode-all numbers)) old
+        → new ≡ filled (writing magic sheet numbers) old
+    write-filled n =
+        n
+        ∙ sym
+        (filled-elements old (write-done .0) (omega (arith, write-done .2, length-append magic (encode-all numbers))))

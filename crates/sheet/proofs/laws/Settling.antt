@@ -41,7 +41,8 @@ module _ {last : Step} (end room : ℕ) where
 
   module _ {n : ℕ} {c : Cursor} (e : last ≡ Value n c) where
     -- something follows
-    pub settled-follows : c .at < end → Outcome.refused (refusal something-follows (c .at)) ≡ settled room (ended end (walked last))
+    pub settled-follows : c .at < end
+        → Outcome.refused (refusal something-follows (c .at)) ≡ settled room (ended end (walked last))
     unfolding ended settled
     settled-follows h = rw (e, lt-ltb (c .at) end h)
 
@@ -57,7 +58,8 @@ module _ {last : Step} (end room : ℕ) where
       settled-done h = rw (e, le-ltb (c .at) end whole-input, le-ltb room (c .count) h)
 
 -- a measure ends as its walk does
-measured-complete : (encoded : Bool) (count stop : ℕ) (walk : Walk) → ended stop (measured encoded count walk) ≡ measured encoded count (complete stop walk)
+measured-complete : (encoded : Bool) (count stop : ℕ) (walk : Walk)
+    → ended stop (measured encoded count walk) ≡ measured encoded count (complete stop walk)
 unfolding ended measured complete
 measured-complete encoded count stop (whole at ns) =
     ⊎-elim
@@ -67,9 +69,12 @@ measured-complete encoded count stop (whole at ns) =
 measured-complete encoded count stop (refused r) = refl
 
 -- a measure that counts the elements made of a walk settles as they are answered
-settled-made : (room : ℕ) (encoded : Bool) (count : ℕ) (f : List ℕ → List ℕ) (walk : Walk) → ((at : ℕ) (ns : List ℕ) → walk ≡ whole at ns → count + weigh encoded ns ≡ length (f ns)) → settled room (measured encoded count walk) ≡ answered room (made f walk)
+settled-made : (room : ℕ) (encoded : Bool) (count : ℕ) (f : List ℕ → List ℕ) (walk : Walk)
+    → ((at : ℕ) (ns : List ℕ) → walk ≡ whole at ns → count + weigh encoded ns ≡ length (f ns))
+    → settled room (measured encoded count walk) ≡ answered room (made f walk)
 unfolding settled measured answered made
-settled-made room encoded count f (whole at ns) h = ap (λ (k : ℕ). cond (ltb room k) (Outcome.refused (refusal slice-short 0)) (Outcome.wrote k)) (h at ns refl)
+settled-made room encoded count f (whole at ns) h =
+    ap (λ (k : ℕ). cond (ltb room k) (Outcome.refused (refusal slice-short 0)) (Outcome.wrote k)) (h at ns refl)
 settled-made room encoded count f (refused r) h = refl
 
 -- numbers weigh one each
@@ -90,13 +95,16 @@ unfolding held
 plain-held form n e = rw (e, sub-zero)
 
 -- what a sheet accepts is held number by number
-pub flat : {m : ℕ} {grammar : Grammar} {ns : List ℕ} → Each SheetNumber m grammar → Accepts grammar ns → encoded grammar ns ≡ encode-all ns
+pub flat : {m : ℕ} {grammar : Grammar} {ns : List ℕ} → Each SheetNumber m grammar → Accepts grammar ns
+    → encoded grammar ns ≡ encode-all ns
 unfolding encoded encode-all
 flat end nil = refl
 flat (each {form = form} p s) (one {n = n} {ns = ns} ok rest) = rw (plain-held form n (p .is-plain), flat (s n ok) rest)
 
 -- what reading answers
-pub read-settled : (bytes : List ℕ) (room : ℕ) {step : Measure} {answer : Outcome} → step ≡ measured true 0 (walk-bytes magic sheet bytes) → answer ≡ settled room (ended (length bytes) step) → answer ≡ answered room (reading magic sheet bytes)
+pub read-settled : (bytes : List ℕ) (room : ℕ) {step : Measure} {answer : Outcome}
+    → step ≡ measured true 0 (walk-bytes magic sheet bytes) → answer ≡ settled room (ended (length bytes) step)
+    → answer ≡ answered room (reading magic sheet bytes)
 unfolding reading
 read-settled bytes room s a =
     a ∙ (ap (λ (m : Measure). settled room (ended (length bytes) m)) s
@@ -104,12 +112,18 @@ read-settled bytes room s a =
     ∙ settled-made room true 0 (λ ns. ns) (complete (length bytes) (walk-bytes magic sheet bytes)) (λ at ns e. omega (arith, weigh-list ns))))
 
 -- the numbers of a whole walk along a list are accepted
-list-accepts : (numbers : List ℕ) (at : ℕ) (ns : List ℕ) → complete (length numbers) (walk-list sheet numbers) ≡ whole at ns → Accepts sheet ns
+list-accepts : (numbers : List ℕ) (at : ℕ) (ns : List ℕ)
+    → complete (length numbers) (walk-list sheet numbers) ≡ whole at ns → Accepts sheet ns
 unfolding walk-list
-list-accepts numbers at ns e = chain-accepts (walk-chain sheet (in-list numbers) 0 at ns (complete-good (length numbers) (walk sheet (in-list numbers) 0) at ns e .0))
+list-accepts numbers at ns e =
+    chain-accepts
+    (walk-chain sheet (in-list numbers) 0 at ns
+    (complete-good (length numbers) (walk sheet (in-list numbers) 0) at ns e .0))
 
 -- what writing answers
-pub write-settled : (numbers : List ℕ) (room : ℕ) {step : Measure} {answer : Outcome} → step ≡ measured false (length magic) (walk-list sheet numbers) → answer ≡ settled room (ended (length numbers) step) → answer ≡ answered room (writing magic sheet numbers)
+pub write-settled : (numbers : List ℕ) (room : ℕ) {step : Measure} {answer : Outcome}
+    → step ≡ measured false (length magic) (walk-list sheet numbers)
+    → answer ≡ settled room (ended (length numbers) step) → answer ≡ answered room (writing magic sheet numbers)
 unfolding writing
 write-settled numbers room s a =
     a ∙ (ap (λ (m : Measure). settled room (ended (length numbers) m)) s

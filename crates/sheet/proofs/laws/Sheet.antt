@@ -24,7 +24,8 @@ behind-width = number plain (within 1 max-layers) λ n. layers n max-nodes [] be
 
 module _ (bytes numbers : List ℕ) where
   -- a step with a value goes on
-  passed : {step : Step} {n : ℕ} {after : Cursor} → step ≡ Value n after → (next : ℕ → Grammar) → onward bytes numbers step next ≡ walk-from bytes numbers after (next n)
+  passed : {step : Step} {n : ℕ} {after : Cursor} → step ≡ Value n after → (next : ℕ → Grammar)
+      → onward bytes numbers step next ≡ walk-from bytes numbers after (next n)
   unfolding onward
   passed e next = rw e
 
@@ -34,7 +35,8 @@ module _ (bytes numbers : List ℕ) where
   handed e next = rw e
 
 -- the layers end at a counted cursor
-pub layers-value : {bytes numbers : List ℕ} {c : Cursor} {n m : ℕ} {counts : List ℕ} {step : Step} {after : Cursor} → LayersRead bytes numbers c n counts step → step ≡ Value m after → Counted after
+pub layers-value : {bytes numbers : List ℕ} {c : Cursor} {n m : ℕ} {counts : List ℕ} {step : Step} {after : Cursor}
+    → LayersRead bytes numbers c n counts step → step ≡ Value m after → Counted after
 layers-value read e = rw e at (read .good)
 
 module _ {bytes numbers : List ℕ} where
@@ -51,7 +53,11 @@ module _ {bytes numbers : List ℕ} where
     module _ {w : ℕ} {c₁ : Cursor} {count : Step} (is-width : width ≡ Value w c₁) (second : Limited bytes numbers c₁ 1 max-layers count) where
       -- on from the count of layers
       from-count : walk-from bytes numbers start sheet ≡ onward bytes numbers count (λ n. layers n max-nodes [] behind-layers)
-      from-count = from-width ∙ (passed bytes numbers is-width (λ n. behind-width) ∙ second .reads .follows (λ n. layers n max-nodes [] behind-layers))
+      from-count =
+          from-width
+          ∙
+          (passed bytes numbers is-width (λ n. behind-width)
+          ∙ second .reads .follows (λ n. layers n max-nodes [] behind-layers))
 
       -- the count of layers is refused
       pub count-refused : {r : Refusal} → count ≡ Refused r → walked count ≡ walk-from bytes numbers start sheet
@@ -60,7 +66,9 @@ module _ {bytes numbers : List ℕ} where
       module _ {n : ℕ} {c₂ : Cursor} {counts : List ℕ} {last : Step} (is-count : count ≡ Value n c₂) (third : LayersRead bytes numbers c₂ n counts last) where
         -- on from the layers
         from-layers : walk-from bytes numbers start sheet ≡ onward bytes numbers last (λ m. behind-layers (take n counts))
-        from-layers = from-count ∙ (passed bytes numbers is-count (λ n. layers n max-nodes [] behind-layers) ∙ third .follows behind-layers)
+        from-layers =
+            from-count
+            ∙ (passed bytes numbers is-count (λ n. layers n max-nodes [] behind-layers) ∙ third .follows behind-layers)
 
         -- a layer is refused
         pub layers-refused : {r : Refusal} → last ≡ Refused r → walked last ≡ walk-from bytes numbers start sheet
@@ -69,12 +77,18 @@ module _ {bytes numbers : List ℕ} where
         module _ {l : ℕ} {c₃ : Cursor} {total : Step} (is-last : last ≡ Value l c₃) (fourth : Limited bytes numbers c₃ 0 max-edges total) where
           -- on from the count of edges
           from-total : walk-from bytes numbers start sheet ≡ onward bytes numbers total (λ m. edges m (take n counts))
-          from-total = from-layers ∙ (passed bytes numbers is-last (λ m. behind-layers (take n counts)) ∙ fourth .reads .follows (λ m. edges m (take n counts)))
+          from-total =
+              from-layers
+              ∙
+              (passed bytes numbers is-last (λ m. behind-layers (take n counts))
+              ∙ fourth .reads .follows (λ m. edges m (take n counts)))
 
           -- the count of edges is refused
           pub total-refused : {r : Refusal} → total ≡ Refused r → walked total ≡ walk-from bytes numbers start sheet
           total-refused e = sym (from-total ∙ handed bytes numbers e (λ m. edges m (take n counts)))
 
           -- the edges end the sheet
-          pub sheet-walked : {m : ℕ} {c₄ : Cursor} {answer : Measure} → total ≡ Value m c₄ → answer ≡ walk-from bytes numbers c₄ (edges m (take n counts)) → answer ≡ walk-from bytes numbers start sheet
+          pub sheet-walked : {m : ℕ} {c₄ : Cursor} {answer : Measure} → total ≡ Value m c₄
+              → answer ≡ walk-from bytes numbers c₄ (edges m (take n counts))
+              → answer ≡ walk-from bytes numbers start sheet
           sheet-walked e h = h ∙ sym (from-total ∙ passed bytes numbers e (λ m. edges m (take n counts)))

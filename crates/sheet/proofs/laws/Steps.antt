@@ -54,9 +54,11 @@ listed-there numbers at {n} {after} e =
     (lt-or-le at (length numbers))
 
 -- a walk's measure counts its first number before the others
-measured-led : (encoded : Bool) (count n : ℕ) (walk : Walk) → measured encoded count (led n walk) ≡ measured encoded (count + weight encoded n) walk
+measured-led : (encoded : Bool) (count n : ℕ) (walk : Walk)
+    → measured encoded count (led n walk) ≡ measured encoded (count + weight encoded n) walk
 unfolding measured led weigh
-measured-led encoded count n (Walk.whole at ns) = ap (λ (k : ℕ). Measure.whole at k) (sym (add-assoc count (weight encoded n) (weigh encoded ns)))
+measured-led encoded count n (Walk.whole at ns) =
+    ap (λ (k : ℕ). Measure.whole at k) (sym (add-assoc count (weight encoded n) (weigh encoded ns)))
 measured-led encoded count n (Walk.refused r) = refl
 
 -- nothing more is counted at the end
@@ -65,7 +67,9 @@ unfolding walk-from walk measured weigh
 walk-done bytes numbers c = ap (λ (k : ℕ). Measure.whole (c .at) k) (add-zero (c .count))
 
 -- the next cursor is counted
-counted-next : (bytes numbers : List ℕ) (encoded : Bool) (at count n after : ℕ) → source encoded bytes numbers plain at ≡ value n after → counted encoded at count → counted encoded after (count + weight encoded n)
+counted-next : (bytes numbers : List ℕ) (encoded : Bool) (at count n after : ℕ)
+    → source encoded bytes numbers plain at ≡ value n after → counted encoded at count
+    → counted encoded after (count + weight encoded n)
 unfolding in-bytes in-list
 counted-next bytes numbers true at count n after e h =
     omega (arith, ahead bytes at n after (sym (plain-raised (byte-item bytes at)) ∙ e))
@@ -86,7 +90,8 @@ module _ (bytes numbers : List ℕ) (c : Cursor) (rule : Rule) (P : ℕ → Type
   here = source (c .encoded) bytes numbers plain (c .at)
 
   -- a checked item is read
-  reads-item : (item : Item) → checked rule (c .at) here ≡ item → Counted c → ((n : ℕ) → rule n ≡ 0 → P n) → Reads bytes numbers c (number plain rule) P (step-of c item)
+  reads-item : (item : Item) → checked rule (c .at) here ≡ item → Counted c → ((n : ℕ) → rule n ≡ 0 → P n)
+      → Reads bytes numbers c (number plain rule) P (step-of c item)
   unfolding here walk-from walk onward followed measured
   reads-item (value n after) i h p =
       let v = checked-value rule (c .at) n after here i in
@@ -97,7 +102,8 @@ module _ (bytes numbers : List ℕ) (c : Cursor) (rule : Rule) (P : ℕ → Type
   reads-item (Item.refused r) i h p = record { follows = λ next. rw i; good = tt }
 
   -- a step that is tested by the rule reads the number
-  pub tested-reads : (step : Step) → step ≡ tested bytes numbers c rule → Counted c → ((n : ℕ) → rule n ≡ 0 → P n) → Reads bytes numbers c (number plain rule) P step
+  pub tested-reads : (step : Step) → step ≡ tested bytes numbers c rule → Counted c → ((n : ℕ) → rule n ≡ 0 → P n)
+      → Reads bytes numbers c (number plain rule) P step
   unfolding here
   tested-reads step e h p = rw e (reads-item (checked rule (c .at) here) refl h p)
 
@@ -131,29 +137,43 @@ module _ (c : Cursor) (item : Item) (rule : Rule) (step : Step) (is-step : step 
 
     -- a value that meets the rule stays
     pub test-good : rule n ≡ 0 → Value n after ≡ step-of c (checked rule (c .at) item)
-    test-good ok = sym e ∙ (is-step ∙ (ap (step-of c) there ∙ (ap (step-of c) (sym (checked-good rule (c .at) n (after .at) ok)) ∙ ap (λ (i : Item). step-of c (checked rule (c .at) i)) (sym there))))
+    test-good ok =
+        sym e
+        ∙
+        (is-step
+        ∙
+        (ap (step-of c) there
+        ∙
+        (ap (step-of c) (sym (checked-good rule (c .at) n (after .at) ok))
+        ∙ ap (λ (i : Item). step-of c (checked rule (c .at) i)) (sym there))))
 
     -- a value that breaks the rule is refused
-    pub test-broken : {why : ℕ} (answer : Step) → rule n ≡ why → 0 < why → answer ≡ Refused (refusal why (c .at)) → answer ≡ step-of c (checked rule (c .at) item)
+    pub test-broken : {why : ℕ} (answer : Step) → rule n ≡ why → 0 < why → answer ≡ Refused (refusal why (c .at))
+        → answer ≡ step-of c (checked rule (c .at) item)
     test-broken answer w pos a =
         a ∙ (ap (λ (k : ℕ). Refused (refusal k (c .at))) (sym w)
         ∙ (ap (step-of c) (sym (checked-broken rule (c .at) n (after .at) (λ (z : rule n ≡ 0). omega arith)))
         ∙ ap (λ (i : Item). step-of c (checked rule (c .at) i)) (sym there)))
 
 -- the steps of the code's two tests
-pub limited-by : {bytes numbers : List ℕ} {c : Cursor} {low high : ℕ} {step : Step} → Counted c → step ≡ tested bytes numbers c (within low high) → Limited bytes numbers c low high step
+pub limited-by : {bytes numbers : List ℕ} {c : Cursor} {low high : ℕ} {step : Step} → Counted c
+    → step ≡ tested bytes numbers c (within low high) → Limited bytes numbers c low high step
 limited-by {bytes} {numbers} {c} {low} {high} {step} h e =
     record { is = e; reads = tested-reads bytes numbers c (within low high) (λ n. (low ≤ n) × (n ≤ high)) step e h (λ n ok. within-limits low high n ok) }
 
 -- a maximum separation is tested by its limits and then by its minimum
-pub maximum-by : {bytes numbers : List ℕ} {c : Cursor} {least : ℕ} {step : Step} → Counted c → step ≡ step-of c (checked (crossed least) (c .at) (checked (within 0 max-separation) (c .at) (source (c .encoded) bytes numbers plain (c .at)))) → Maximum bytes numbers c least step
+pub maximum-by : {bytes numbers : List ℕ} {c : Cursor} {least : ℕ} {step : Step} → Counted c
+    → step ≡ step-of c (checked (crossed least) (c .at) (checked (within 0 max-separation) (c .at) (source (c .encoded) bytes numbers plain (c .at))))
+    → Maximum bytes numbers c least step
 maximum-by {bytes} {numbers} {c} {least} {step} h e =
     record { reads = tested-reads bytes numbers c (maximum-rule least) (λ n. Unit) step (e ∙ ap (step-of c) (checked-both (within 0 max-separation) (crossed least) (c .at) (source (c .encoded) bytes numbers plain (c .at)))) h (λ n ok. tt) }
 
 -- two parts, one behind the other
 module _ {bytes numbers : List ℕ} {c : Cursor} {part : (ℕ → Grammar) → Grammar} {P : ℕ → Type 0} {step : Step} (first : Reads bytes numbers c part P step) where
   -- a second part goes on from the first
-  pub then-reads : {n : ℕ} {after : Cursor} {Q : ℕ → Type 0} {answer : Step} (others : ℕ → (ℕ → Grammar) → Grammar) → step ≡ Value n after → Reads bytes numbers after (others n) Q answer → Reads bytes numbers c (λ next. part λ m. others m next) Q answer
+  pub then-reads : {n : ℕ} {after : Cursor} {Q : ℕ → Type 0} {answer : Step} (others : ℕ → (ℕ → Grammar) → Grammar)
+      → step ≡ Value n after → Reads bytes numbers after (others n) Q answer
+      → Reads bytes numbers c (λ next. part λ m. others m next) Q answer
   unfolding onward
   then-reads others e second =
       record {
@@ -164,7 +184,8 @@ module _ {bytes numbers : List ℕ} {c : Cursor} {part : (ℕ → Grammar) → G
       }
 
   -- a refused part ends both
-  pub stops : {r : Refusal} {Q : ℕ → Type 0} (others : ℕ → (ℕ → Grammar) → Grammar) → step ≡ Refused r → Reads bytes numbers c (λ next. part λ m. others m next) Q step
+  pub stops : {r : Refusal} {Q : ℕ → Type 0} (others : ℕ → (ℕ → Grammar) → Grammar) → step ≡ Refused r
+      → Reads bytes numbers c (λ next. part λ m. others m next) Q step
   unfolding onward
   stops others e =
       record {
@@ -188,9 +209,11 @@ module _ {bytes numbers : List ℕ} {c : Cursor} {part : (ℕ → Grammar) → G
       go (Refused r) g = tt
 
 -- the value of a limited step
-pub limited-value : {bytes numbers : List ℕ} {c : Cursor} {low high n : ℕ} {after : Cursor} {step : Step} → Limited bytes numbers c low high step → step ≡ Value n after → Counted after × ((low ≤ n) × (n ≤ high))
+pub limited-value : {bytes numbers : List ℕ} {c : Cursor} {low high n : ℕ} {after : Cursor} {step : Step}
+    → Limited bytes numbers c low high step → step ≡ Value n after → Counted after × ((low ≤ n) × (n ≤ high))
 limited-value first e = good-value (first .reads) e
 
 -- a limit may be told in another way
-pub relimit : {bytes numbers : List ℕ} {c : Cursor} {low high high′ : ℕ} {r : Step} → high ≡ high′ → Limited bytes numbers c low high r → Limited bytes numbers c low high′ r
+pub relimit : {bytes numbers : List ℕ} {c : Cursor} {low high high′ : ℕ} {r : Step} → high ≡ high′
+    → Limited bytes numbers c low high r → Limited bytes numbers c low high′ r
 relimit {bytes} {numbers} {c} {low} {r = r} e h = subst (λ (k : ℕ). Limited bytes numbers c low k r) e h

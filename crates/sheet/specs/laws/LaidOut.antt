@@ -22,7 +22,8 @@ pub record Opened (rule : Rule) (next : ℕ → Grammar) (s : List ℕ) : Type 0
   pub there : length s ≡ 1 + length (drop 1 s)
 
 -- accepted numbers, opened
-pub opened : {form : Form} {rule : Rule} {next : ℕ → Grammar} {s : List ℕ} → Accepts (number form rule next) s → Opened rule next s
+pub opened : {form : Form} {rule : Rule} {next : ℕ → Grammar} {s : List ℕ} → Accepts (number form rule next) s
+    → Opened rule next s
 opened (one ok rest) = record { meets = ok; rest = rest; there = omega arith }
 
 -- k numbers are there, and what follows them is accepted
@@ -41,11 +42,14 @@ behind-pairs (suc n) {s = s} a =
     let all : separation-stride * suc n ≡ 1 + (1 + separation-stride * n) = omega arith in
     record {
       there = omega (arith, minimum .there, maximum .there, others .there);
-      rest = rw (all, ← drop-drop (1 + separation-stride * n) 1 s, ← drop-drop (separation-stride * n) 1 (drop 1 s)) (others .rest);
+      rest =
+          rw (all, ← drop-drop (1 + separation-stride * n) 1 s, ← drop-drop (separation-stride * n) 1 (drop 1 s))
+          (others .rest);
     }
 
 -- what follows a layer's count and its pairs
-pub behind-layer : {next : Grammar} (s : List ℕ) → 1 ≤ length s → Accepts (separations (getD s nodes-at 0 - 1) next) (drop 1 s) → Behind (layer-size (getD s nodes-at 0)) next s
+pub behind-layer : {next : Grammar} (s : List ℕ) → 1 ≤ length s
+    → Accepts (separations (getD s nodes-at 0 - 1) next) (drop 1 s) → Behind (layer-size (getD s nodes-at 0)) next s
 behind-layer s h a =
     let n : ℕ = getD s nodes-at 0 - 1 in
     let pairs = behind-pairs n a in
@@ -58,7 +62,8 @@ record Laid (n room : ℕ) (next : List ℕ → Grammar) (s : List ℕ) : Type 0
   pub few : nodes-of n s ≤ room
 
 -- the layers of accepted numbers
-laid : (n room : ℕ) (counts : List ℕ) {next : List ℕ → Grammar} {s : List ℕ} → Accepts (layers n room counts next) s → Laid n room next s
+laid : (n room : ℕ) (counts : List ℕ) {next : List ℕ → Grammar} {s : List ℕ} → Accepts (layers n room counts next) s
+    → Laid n room next s
 unfolding layers
 laid zero room counts a = record { counts = counts; rest = a; few = omega arith }
 laid (suc n) room counts {s = s} a =

@@ -104,7 +104,8 @@ maximum-apart least n ok pos =
     (lt-or-le n least)
 
 -- the pairs of a layer
-each-separations : (n m : ℕ) {next : Grammar} → Each SheetNumber m next → Each SheetNumber (separation-stride * n + m) (separations n next)
+each-separations : (n m : ℕ) {next : Grammar} → Each SheetNumber m next
+    → Each SheetNumber (separation-stride * n + m) (separations n next)
 unfolding separations separation
 each-separations zero m s = each-more (omega arith) s
 each-separations (suc n) m s =
@@ -124,7 +125,10 @@ counts-more (count ∷ counts) nodes c h zero = c zero
 counts-more (count ∷ counts) nodes c h (suc i) = counts-more counts nodes (λ j. c (suc j)) h i
 
 -- n layers of at most room nodes, and of at most 64 each, have one number for each layer and two for each pair
-each-layers : (n room m bound : ℕ) (counts : List ℕ) {next : List ℕ → Grammar} → n < m → min (separation-stride * room) (separation-stride * max-layer-nodes * n) + m ≤ bound + n → Counts counts → ((all : List ℕ) → length all ≡ length counts + n → Counts all → Each SheetNumber m (next all)) → Each SheetNumber bound (layers n room counts next)
+each-layers : (n room m bound : ℕ) (counts : List ℕ) {next : List ℕ → Grammar} → n < m
+    → min (separation-stride * room) (separation-stride * max-layer-nodes * n) + m ≤ bound + n → Counts counts
+    → ((all : List ℕ) → length all ≡ length counts + n → Counts all → Each SheetNumber m (next all))
+    → Each SheetNumber bound (layers n room counts next)
 unfolding layers
 each-layers zero room m bound counts more h c s = each-more (omega arith) (s counts (omega arith) c)
 each-layers (suc n) room m bound counts more h c s =
@@ -137,7 +141,8 @@ each-layers (suc n) room m bound counts more h c s =
     (λ all e d. s all (omega (arith, length-append counts (nodes ∷ []))) d)))
 
 -- the edges
-each-edges : (n : ℕ) (counts : List ℕ) → length counts ≤ max-layers → Counts counts → Each SheetNumber (edge-stride * n) (edges n counts)
+each-edges : (n : ℕ) (counts : List ℕ) → length counts ≤ max-layers → Counts counts
+    → Each SheetNumber (edge-stride * n) (edges n counts)
 unfolding edges edge
 each-edges zero counts h c = end
 each-edges (suc n) counts h c =

@@ -32,7 +32,8 @@ fits : (form : Form) (rule : Rule) → SheetNumber form rule → Fits form rule
 fits form rule p n ok = rw (p .is-plain) (omega arith, omega (arith, p .small n ok))
 
 -- the number lists that are written are those that the grammar accepts: the good ones
-pub accepted-written : (numbers : List ℕ) → Accepts sheet numbers → writing magic sheet numbers ≡ elements (magic ++ encoded sheet numbers)
+pub accepted-written : (numbers : List ℕ) → Accepts sheet numbers
+    → writing magic sheet numbers ≡ elements (magic ++ encoded sheet numbers)
 accepted-written = format-accepted-written magic sheet
 
 -- a list that is written is good
@@ -44,11 +45,13 @@ pub read-accepted : (bytes numbers : List ℕ) → reading magic sheet bytes ≡
 read-accepted bytes numbers e = chain-accepts (good-reading magic sheet bytes numbers e .good .chain)
 
 -- one to one: every list that is written is read back as itself
-pub read-written : (numbers bytes : List ℕ) → writing magic sheet numbers ≡ elements bytes → reading magic sheet bytes ≡ elements numbers
+pub read-written : (numbers bytes : List ℕ) → writing magic sheet numbers ≡ elements bytes
+    → reading magic sheet bytes ≡ elements numbers
 read-written = format-read-written magic sheet (each-map fits each-sheet)
 
 -- one to one: every byte string that is read is written again with the same bytes
-pub write-read : (bytes numbers : List ℕ) → AreBytes bytes → reading magic sheet bytes ≡ elements numbers → writing magic sheet numbers ≡ elements bytes
+pub write-read : (bytes numbers : List ℕ) → AreBytes bytes → reading magic sheet bytes ≡ elements numbers
+    → writing magic sheet numbers ≡ elements bytes
 write-read = format-write-read magic sheet
 
 -- a walk over any source asks for at most 2,559 numbers, refused or not
@@ -72,11 +75,13 @@ pub first-bytes : (bytes : List ℕ) → reading magic sheet (take (max-bytes + 
 first-bytes = front-reading magic each-sheet
 
 -- so bytes that agree on them are read alike, and so is whatever starts with reading
-pub read-alike : (one other : List ℕ) → take (max-bytes + 1) one ≡ take (max-bytes + 1) other → reading magic sheet one ≡ reading magic sheet other
+pub read-alike : (one other : List ℕ) → take (max-bytes + 1) one ≡ take (max-bytes + 1) other
+    → reading magic sheet one ≡ reading magic sheet other
 read-alike one other e = sym (first-bytes one) ∙ (ap (reading magic sheet) e ∙ first-bytes other)
 
 -- the writer gives refusals 1, 4, 5, 6 and 7 only
-pub writer-refusals : (numbers : List ℕ) (room : ℕ) (r : Refusal) → answered room (writing magic sheet numbers) ≡ Outcome.refused r → WriterRefusal (r .number)
+pub writer-refusals : (numbers : List ℕ) (room : ℕ) (r : Refusal)
+    → answered room (writing magic sheet numbers) ≡ Outcome.refused r → WriterRefusal (r .number)
 writer-refusals = writer-gives WriterRefusal ended follows short (each-map (λ form rule p. p .gives) each-sheet) magic
 
 -- numbers of refusals that reading and writing give: 1 to 7

@@ -84,7 +84,8 @@ writing-held numbers room = go (writing magic sheet numbers) refl
         refused-held room r (given-held r (writer-given (writer-refusals numbers room r (rw e (refused-answer room r)))) (omega (arith, writer-offsets numbers r e)))
 
 -- of a good sheet, drawn
-sheet-held : (S : Sheet) (p₀ : List ℕ) (y₀ : List ℤ) (p : List ℕ) (y : List ℤ) (d : Drawn) → DrawsSheet S p₀ y₀ p y d → HeldDrawn d
+sheet-held : (S : Sheet) (p₀ : List ℕ) (y₀ : List ℤ) (p : List ℕ) (y : List ℤ) (d : Drawn) → DrawsSheet S p₀ y₀ p y d
+    → HeldDrawn d
 sheet-held S p₀ y₀ p y (Drawn.drawn total) h = omega (arith, h .total-in)
 sheet-held S p₀ y₀ p y (Drawn.refused r) h = record { numbered = numbered (h .0); offset-in = omega (arith, h .1) }
   where
@@ -95,7 +96,8 @@ sheet-held S p₀ y₀ p y (Drawn.refused r) h = record { numbered = numbered (h
     numbered (passes q k l m) = omega arith
 
 -- of drawing
-pub drawing-held : (bytes p₀ : List ℕ) (y₀ : List ℤ) (p : List ℕ) (y : List ℤ) (d : Drawn) → Draws (reading magic sheet bytes) p₀ y₀ p y d → HeldDrawn d
+pub drawing-held : (bytes p₀ : List ℕ) (y₀ : List ℤ) (p : List ℕ) (y : List ℤ) (d : Drawn)
+    → Draws (reading magic sheet bytes) p₀ y₀ p y d → HeldDrawn d
 unfolding Draws
 drawing-held bytes p₀ y₀ p y d h = go (reading magic sheet bytes) refl h
   where
