@@ -15,23 +15,13 @@ const SHEETS: usize = 20;
 const RUNS: usize = 50;
 /// A sheet whose nodes can move a little; the counts are set for each size.
 const TIGHT: Plan = Plan {
-    layers: 8,
-    nodes: 0,
-    edges: 0,
-    distance: 3,
-    play: 1,
-    margin: 0,
     straight: 8,
-    maximum: 2,
+    ..Plan::FULL_TIGHT
 };
 /// A sheet whose nodes can move far.
 const WIDE: Plan = Plan {
-    distance: 60,
-    play: 50,
-    margin: 2000,
     straight: 8,
-    maximum: 4,
-    ..TIGHT
+    ..Plan::FULL_WIDE
 };
 
 /// A sheet with its drawing and list.

@@ -5,7 +5,9 @@
 
 use crate::draft::{Draft, Edge, Separation};
 use crate::random::Random;
-use crate::sheet::{LAYER_NODE_LIMIT, PLAIN, SEPARATION_LIMIT, STRAIGHT, WIDTH_LIMIT};
+use crate::sheet::{
+    EDGE_LIMIT, LAYER_NODE_LIMIT, NODE_LIMIT, PLAIN, SEPARATION_LIMIT, STRAIGHT, WIDTH_LIMIT,
+};
 
 /// What a sheet with a drawing is to be like.
 #[derive(Clone, Copy, Debug)]
@@ -23,6 +25,38 @@ pub struct Plan {
     pub straight: u16,
     /// One pair of neighbours in so many has a maximum separation.
     pub maximum: u16,
+}
+
+impl Plan {
+    /// Sheets of full size that leave little room to move.
+    pub const FULL_TIGHT: Plan = Plan {
+        layers: 8,
+        nodes: NODE_LIMIT,
+        edges: EDGE_LIMIT,
+        distance: 3,
+        play: 1,
+        margin: 0,
+        straight: 1,
+        maximum: 2,
+    };
+    /// Sheets of full size in which nodes can move some steps.
+    pub const FULL_LOOSE: Plan = Plan {
+        distance: 9,
+        play: 4,
+        margin: 50,
+        straight: 6,
+        maximum: 3,
+        ..Plan::FULL_TIGHT
+    };
+    /// Sheets of full size in which nodes can move far.
+    pub const FULL_WIDE: Plan = Plan {
+        distance: 60,
+        play: 50,
+        margin: 2000,
+        straight: 2,
+        maximum: 4,
+        ..Plan::FULL_TIGHT
+    };
 }
 
 /// A random sheet of this plan.

@@ -12,7 +12,7 @@ use std::process::Command;
 use tools::{compiler, folder, output, root};
 
 /// Where the files go, below the folder of the test.
-const PREFIX: &str = "/opt/strips";
+const PREFIX: &str = "/prefix";
 /// The files with their modes; a link has none.
 const FILES: [(&str, Option<u32>); 6] = [
     ("bin/place", Some(0o755)),

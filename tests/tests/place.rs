@@ -18,7 +18,6 @@ use second::generate::{good, largest, LONGEST};
 use second::planted::{planted, Plan};
 use second::printed::printed;
 use second::random::Random;
-use second::sheet::{EDGE_LIMIT, NODE_LIMIT};
 
 /// How long one run may take.
 const LIMIT: Duration = Duration::from_secs(20);
@@ -87,17 +86,7 @@ fn check(input: &[u8]) {
 
 /// A sheet of full size that has a drawing.
 fn large(seed: u64) -> Vec<u8> {
-    let plan = Plan {
-        layers: 8,
-        nodes: NODE_LIMIT,
-        edges: EDGE_LIMIT,
-        distance: 9,
-        play: 4,
-        margin: 50,
-        straight: 6,
-        maximum: 3,
-    };
-    planted(&mut Random::new(seed), &plan).bytes()
+    planted(&mut Random::new(seed), &Plan::FULL_LOOSE).bytes()
 }
 
 #[test]

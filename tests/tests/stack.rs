@@ -7,36 +7,14 @@ use std::process::Command;
 
 use second::planted::{planted, Plan};
 use second::random::Random;
-use second::sheet::{EDGE_LIMIT, NODE_LIMIT};
 use tools::{compiler, folder, output, LIBRARY};
-
-/// Sheets of full size that leave little room to move.
-const TIGHT: Plan = Plan {
-    layers: 8,
-    nodes: NODE_LIMIT,
-    edges: EDGE_LIMIT,
-    distance: 3,
-    play: 1,
-    margin: 0,
-    straight: 1,
-    maximum: 2,
-};
-/// Sheets of full size in which nodes can move far.
-const WIDE: Plan = Plan {
-    distance: 60,
-    play: 50,
-    margin: 2000,
-    straight: 2,
-    maximum: 4,
-    ..TIGHT
-};
 
 /// Sheets of full size, some of each kind.
 fn sheets() -> Vec<Vec<u8>> {
     let mut random = Random::new(47);
     let mut sheets = Vec::new();
     for layers in [4, 8, 64] {
-        for plan in [TIGHT, WIDE] {
+        for plan in [Plan::FULL_TIGHT, Plan::FULL_WIDE] {
             for _ in 0..10 {
                 let plan = Plan { layers, ..plan };
                 sheets.push(planted(&mut random, &plan).bytes());

@@ -69,11 +69,7 @@ fn large() -> Vec<Vec<u8>> {
                 layers,
                 nodes,
                 edges,
-                distance: 9,
-                play: 4,
-                margin: 50,
-                straight: 6,
-                maximum: 3,
+                ..Plan::FULL_LOOSE
             };
             sheets.push(planted(&mut random, &plan).bytes());
         }

@@ -8,27 +8,6 @@ use crate::planted::{planted, Plan};
 use crate::random::Random;
 use crate::sheet::{EDGE_LIMIT, LAYER_LIMIT, NODE_LIMIT, PLAIN, STRAIGHT, WIDTH_LIMIT};
 
-/// Sheets of full size that leave little room to move.
-const TIGHT: Plan = Plan {
-    layers: 8,
-    nodes: NODE_LIMIT,
-    edges: EDGE_LIMIT,
-    distance: 3,
-    play: 1,
-    margin: 0,
-    straight: 1,
-    maximum: 2,
-};
-/// Sheets of full size in which nodes can move far.
-const WIDE: Plan = Plan {
-    distance: 60,
-    play: 50,
-    margin: 2000,
-    straight: 2,
-    maximum: 4,
-    ..TIGHT
-};
-
 /// Small sheets with extreme numbers.
 pub fn extremes() -> Group {
     let mut group = Group::new("drawing sheets with extreme numbers");
@@ -74,26 +53,14 @@ fn chain() -> Draft {
 pub fn full() -> Group {
     let mut group = Group::new("drawing sheets of full size");
     let mut random = Random::new(35);
-    let plans = [
-        ("8 layers, tight", TIGHT),
-        ("8 layers, wide", WIDE),
-        ("4 layers, tight", Plan { layers: 4, ..TIGHT }),
-        ("4 layers, wide", Plan { layers: 4, ..WIDE }),
-        (
-            "64 layers, tight",
-            Plan {
-                layers: 64,
-                ..TIGHT
-            },
-        ),
-        ("64 layers, wide", Plan { layers: 64, ..WIDE }),
-    ];
-    for (name, plan) in plans {
-        group.note(&format!("{name}: yes"));
-        group.draw_exactly(&planted(&mut random, &plan));
+    for layers in [8, 4, 64] {
+        for (name, plan) in [("tight", Plan::FULL_TIGHT), ("wide", Plan::FULL_WIDE)] {
+            group.note(&format!("{layers} layers, {name}: yes"));
+            group.draw_exactly(&planted(&mut random, &Plan { layers, ..plan }));
+        }
     }
     group.note("one short, each slice alone: refused");
-    let bytes = planted(&mut random, &TIGHT).bytes();
+    let bytes = planted(&mut random, &Plan::FULL_TIGHT).bytes();
     let (places, list) = (NODE_LIMIT.into(), 1024);
     group.draw(&bytes, places - 1, list);
     group.draw(&bytes, places, list - 1);
