@@ -2,13 +2,21 @@
 -- is reached.
 use Rattle.network.specs.Net.{Net, arcs, tail, head, low, high, asks, stands}
 use Rattle.circulation.specs.inside.Search.{Enters, Leaves, Distance, Gap, GapAt, Crosses, Crossing, step}
+use Rattle.circulation.specs.inside.Slackness.{Small}
 use Rattle.circulation.specs.inside.Steps.{Nearest}
+use Rattle.circulation.specs.Limits.{kink-most}
+use Rattle.network.specs.Packed.{kink-zero}
 use mathlib.Core.Path.{_≡_}
 use mathlib.Core.Logic.{inl, inr, ⊎-elim}
 use Prim.Native.Nat.{ℕ, _+_, _≤_, _<_}
 use native.Mathlib.Decide.{decLt}
 use native.Mathlib.Omega.{arith}
 use borrow.Author.Count.{below-none, below-more}
+
+-- where an arc stands and where it asks to stand are numbers of 32 bits
+pub sides-small : (p : ℕ → ℕ) (t h most : ℕ) {a b k : ℕ} → Small p → a ≡ p h → b ≡ p t → k ≡ most → most ≤ kink-most
+    → (a + kink-zero < 4294967296) × (b + k < 4294967296)
+sides-small p t h most p-in ea eb ek few = (omega (arith, p-in h), omega (arith, p-in t))
 
 module _ {a b h t x l c : ℕ} where
   -- an arc that does not cross has no step

@@ -1,7 +1,7 @@
 -- `circulation::gap::gap_at` meets its contract: by the ends that are reached.
 use Rattle.network.specs.Net.{net, at}
 use Rattle.circulation.specs.Nodes.{potentials, ranks}
-use Rattle.circulation.proofs.laws.Gaps.{both-in, both-out, gap-enter, gap-leave}
+use Rattle.circulation.proofs.laws.Gaps.{sides-small, both-in, both-out, gap-enter, gap-leave}
 use Rattle.circulation.proofs.laws.Columns.{node-there}
 use lib.ListN.{length}
 use mathlib.Core.Path.{ap}
@@ -106,26 +106,10 @@ distance-requires c κs =
     let head-of = c .before .before .before .before .before .before .before .before .before .head-of in
     let get = c .before .before .before .before .before .before .before .before .get in
     let get2 = c .before .before .before .before .before .before .before .get2 in
-    let kink-of = c .before .before .before .before .before .before .kink-of in (
-      omega (
-        arith,
-        start .pre .0 .p-in (head-of .result),
-        start .pre .0 .p-in (tail-of .result),
-        get .ensures,
-        get2 .ensures,
-        kink-of .ensures,
-        start .pre .0 .wf .arc-in (start .args .i) (start .pre .1) .kink-in,
-      ),
-      omega (
-        arith,
-        start .pre .0 .p-in (head-of .result),
-        start .pre .0 .p-in (tail-of .result),
-        get .ensures,
-        get2 .ensures,
-        kink-of .ensures,
-        start .pre .0 .wf .arc-in (start .args .i) (start .pre .1) .kink-in,
-      ),
-    )
+    let kink-of = c .before .before .before .before .before .before .kink-of in
+    sides-small (at (potentials (start .args .nodes .now))) (tail-of .result) (head-of .result) _ (start .pre .0 .p-in)
+    (get .ensures) (get2 .ensures) (kink-of .ensures)
+    (start .pre .0 .wf .arc-in (start .args .i) (start .pre .1) .kink-in)
 
 returns-2 : tie.Need-returns-2
 returns-2 c =
@@ -184,26 +168,12 @@ distance-requires-2 c κs =
     let head-of = c .before .before .before .before .before .before .before .before .before .head-of in
     let get = c .before .before .before .before .before .before .before .before .get in
     let get2 = c .before .before .before .before .before .before .before .get2 in
-    let kink-of = c .before .before .before .before .before .before .kink-of in (
-      omega (
-        arith,
-        start .pre .0 .p-in (head-of .result),
-        start .pre .0 .p-in (tail-of .result),
-        get .ensures,
-        get2 .ensures,
-        kink-of .ensures,
-        start .pre .0 .wf .arc-in (start .args .i) (start .pre .1) .kink-in,
-      ),
-      omega (
-        arith,
-        start .pre .0 .p-in (head-of .result),
-        start .pre .0 .p-in (tail-of .result),
-        get .ensures,
-        get2 .ensures,
-        kink-of .ensures,
-        start .pre .0 .wf .arc-in (start .args .i) (start .pre .1) .kink-in,
-      ),
-    )
+    let kink-of = c .before .before .before .before .before .before .kink-of in
+    let small =
+    sides-small (at (potentials (start .args .nodes .now))) (tail-of .result) (head-of .result) _ (start .pre .0 .p-in)
+    (get .ensures) (get2 .ensures) (kink-of .ensures)
+    (start .pre .0 .wf .arc-in (start .args .i) (start .pre .1) .kink-in) in
+    (small .1, small .0)
 
 returns-4 : tie.Need-returns-4
 returns-4 c =

@@ -8,7 +8,8 @@ use Rattle.circulation.specs.laws.Columns.{column-length}
 use Rattle.circulation.proofs.laws.Columns.{apart-start, apart-join}
 use lib.ListN.{length}
 use mathlib.Core.Path.{_∙_}
-use Prim.Native.Nat.{_-_, _/_}
+use Prim.Native.Nat.{_-_, _/_, _≤_, _<_}
+use Rattle.circulation.specs.Limits.{most-nodes}
 use native.Mathlib.Omega.{arith}
 use borrow.Author.Needs.{needs}
 use Rattle.circulation.proofs.start.count_need.Statement.{statement}
@@ -57,53 +58,21 @@ charge-requires c κs =
     let loop = c .before .before .before .before .before .loop in
     let loop-test = c .before .before .before .before .loop-test in
     let tail-of = c .before .before .before .tail-of in
-    let head-of = c .before .before .head-of in (
+    let head-of = c .before .before .head-of in
+    let arc = start .pre .0 .arc-in (loop .i) (loop-test .taken) in
+    let flow-in = start .pre .1 (loop .i) (loop-test .taken) in
+    let tail-in : tail-of .result < length (fill .last .0) / node-stride =
+    omega (arith, tail-of .ensures, arc .tail-in, fill .ensures .1 .length-same) in
+    let head-in : head-of .result < length (fill .last .0) / node-stride =
+    omega (arith, head-of .ensures, arc .head-in, fill .ensures .1 .length-same) in
+    let few : length (fill .last .0) / node-stride ≤ most-nodes =
+    omega (arith, start .pre .0 .nodes, fill .ensures .1 .length-same) in
+    let range = count-range (loop .inv .0) (loop-test .taken) (start .pre .0 .few) (start .pre .1) in
+    let same = loop .inv .1 .length-same in (
+      (omega (arith, head-in, same), omega (arith, tail-in, same), omega (arith, few, same)),
       (
-        (omega (
-          arith,
-          head-of .ensures,
-          start .pre .0 .arc-in (loop .i) (loop-test .taken) .head-in,
-          fill .ensures .1 .length-same,
-          loop .inv .1 .length-same,
-        )),
-        (omega (
-          arith,
-          tail-of .ensures,
-          start .pre .0 .arc-in (loop .i) (loop-test .taken) .tail-in,
-          fill .ensures .1 .length-same,
-          loop .inv .1 .length-same,
-        )),
-        omega (arith, start .pre .0 .nodes, fill .ensures .1 .length-same, loop .inv .1 .length-same),
-      ),
-      (
-        omega (
-          arith,
-          count-range (loop .inv .0) (loop-test .taken) (start .pre .0 .few) (start .pre .1) (tail-of .result)
-              (omega (
-                arith,
-                tail-of .ensures,
-                start .pre .0 .arc-in (loop .i) (loop-test .taken) .tail-in,
-                fill .ensures .1 .length-same,
-                loop .inv .1 .length-same,
-              )) .1,
-          c .flow-of .ensures,
-          start .pre .1 (loop .i) (loop-test .taken) .0,
-          start .pre .1 (loop .i) (loop-test .taken) .1,
-        ),
-        omega (
-          arith,
-          count-range (loop .inv .0) (loop-test .taken) (start .pre .0 .few) (start .pre .1) (head-of .result)
-              (omega (
-                arith,
-                head-of .ensures,
-                start .pre .0 .arc-in (loop .i) (loop-test .taken) .head-in,
-                fill .ensures .1 .length-same,
-                loop .inv .1 .length-same,
-              )) .0,
-          c .flow-of .ensures,
-          start .pre .1 (loop .i) (loop-test .taken) .0,
-          start .pre .1 (loop .i) (loop-test .taken) .1,
-        ),
+        omega (arith, range (tail-of .result) tail-in .1, c .flow-of .ensures, flow-in .0, flow-in .1),
+        omega (arith, range (head-of .result) head-in .0, c .flow-of .ensures, flow-in .0, flow-in .1),
       ),
     )
 
@@ -116,64 +85,36 @@ charge-requires-2 c κs =
     let tail-of = c .before .before .before .before .before .before .before .tail-of in
     let head-of = c .before .before .before .before .before .before .head-of in
     let flow-of = c .before .before .before .before .flow-of in
-    let charge = c .before .before .before .charge in (
-      (
-        omega (
-          arith,
-          tail-of .ensures,
-          start .pre .0 .arc-in (loop .i) (loop-test .taken) .tail-in,
-          fill .ensures .1 .length-same,
-          loop .inv .1 .length-same,
-          charge .ensures .1 .length-same,
-        ),
-        omega (
-          arith,
-          head-of .ensures,
-          start .pre .0 .arc-in (loop .i) (loop-test .taken) .head-in,
-          fill .ensures .1 .length-same,
-          loop .inv .1 .length-same,
-          charge .ensures .1 .length-same,
-        ),
-        omega (
-          arith,
-          start .pre .0 .nodes,
-          fill .ensures .1 .length-same,
-          loop .inv .1 .length-same,
-          charge .ensures .1 .length-same,
-        ),
-      ),
+    let charge = c .before .before .before .charge in
+    let arc = start .pre .0 .arc-in (loop .i) (loop-test .taken) in
+    let flow-in = start .pre .1 (loop .i) (loop-test .taken) in
+    let tail-in : tail-of .result < length (fill .last .0) / node-stride =
+    omega (arith, tail-of .ensures, arc .tail-in, fill .ensures .1 .length-same) in
+    let head-in : head-of .result < length (fill .last .0) / node-stride =
+    omega (arith, head-of .ensures, arc .head-in, fill .ensures .1 .length-same) in
+    let few : length (fill .last .0) / node-stride ≤ most-nodes =
+    omega (arith, start .pre .0 .nodes, fill .ensures .1 .length-same) in
+    let range = count-range (loop .inv .0) (loop-test .taken) (start .pre .0 .few) (start .pre .1) in
+    let same = charge .ensures .1 .length-same ∙ loop .inv .1 .length-same in (
+      (omega (arith, tail-in, same), omega (arith, head-in, same), omega (arith, few, same)),
       (
         omega (
           arith,
           charge .ensures .0 (head-of .result),
           pick-le (tail-of .result) (head-of .result) (flow-of .result),
-          count-range (loop .inv .0) (loop-test .taken) (start .pre .0 .few) (start .pre .1) (head-of .result)
-              (omega (
-                arith,
-                head-of .ensures,
-                start .pre .0 .arc-in (loop .i) (loop-test .taken) .head-in,
-                fill .ensures .1 .length-same,
-                loop .inv .1 .length-same,
-              )) .1,
+          range (head-of .result) head-in .1,
           flow-of .ensures,
-          start .pre .1 (loop .i) (loop-test .taken) .0,
-          start .pre .1 (loop .i) (loop-test .taken) .1,
+          flow-in .0,
+          flow-in .1,
         ),
         omega (
           arith,
           charge .ensures .0 (tail-of .result),
           pick-le (head-of .result) (tail-of .result) (flow-of .result),
-          count-range (loop .inv .0) (loop-test .taken) (start .pre .0 .few) (start .pre .1) (tail-of .result)
-              (omega (
-                arith,
-                tail-of .ensures,
-                start .pre .0 .arc-in (loop .i) (loop-test .taken) .tail-in,
-                fill .ensures .1 .length-same,
-                loop .inv .1 .length-same,
-              )) .0,
+          range (tail-of .result) tail-in .0,
           flow-of .ensures,
-          start .pre .1 (loop .i) (loop-test .taken) .0,
-          start .pre .1 (loop .i) (loop-test .taken) .1,
+          flow-in .0,
+          flow-in .1,
         ),
       ),
     )
