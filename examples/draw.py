@@ -1,47 +1,43 @@
-"""Draws document 01's first sheet: a layer of two nodes, a layer of one, two edges.
+"""Draws the sheet in a file, and prints the drawing or the refusal as the program place does.
 
-The first argument is the path of the shared library.
+Exit status: 0 drawn, 1 refused, 2 the file cannot be read.
 """
 
-import ctypes
 import sys
 
-# The greatest counts of places and of numbers in a list, as in strip.h.
-MAX_PLACES, MAX_LIST = 256, 1024
+import strip
 
 
-def load(path):
-    """The library, with the types of strip_draw."""
-    library = ctypes.CDLL(path)
-    size = ctypes.c_size_t
-    library.strip_draw.restype = ctypes.c_uint64
-    library.strip_draw.argtypes = [
-        ctypes.c_char_p, size,
-        ctypes.POINTER(ctypes.c_uint16), size,
-        ctypes.POINTER(ctypes.c_int32), size,
-    ]
-    return library
-
-
-def main(path):
-    """Prints the total, then layer, position and place of each node."""
-    sheet = bytes([0x53, 0x50, 0x31, 5, 2, 2, 1, 0, 1, 2, 1, 1, 1, 0, 1, 2, 1, 0])
-    layers = [2, 1]
-    places = (ctypes.c_uint16 * MAX_PLACES)()
-    numbers = (ctypes.c_int32 * MAX_LIST)()
-
-    answer = load(path).strip_draw(sheet, len(sheet), places, len(places), numbers, len(numbers))
-    refusal, value = divmod(answer, 2**32)
-    if refusal != 0:
-        sys.exit(f"refused {refusal} at {value}")
-    print("total", value)
-    place = iter(places)
-    for layer, count in enumerate(layers, 1):
+def text(sheet):
+    """The total, then layer, position and place of each node."""
+    drawing = strip.draw(sheet)
+    counts, _ = strip.sizes(strip.read(sheet))
+    lines = [f"total {drawing.total}"]
+    place = iter(drawing.places)
+    for layer, count in enumerate(counts, 1):
         for position in range(1, count + 1):
-            print(layer, position, next(place))
+            lines.append(f"{layer} {position} {next(place)}")
+    return "\n".join(lines)
+
+
+def main(arguments):
+    """Takes the file from the command line; the exit status."""
+    if len(arguments) != 1:
+        print("usage: draw.py FILE", file=sys.stderr)
+        return 2
+    try:
+        with open(arguments[0], "rb") as file:
+            sheet = file.read(strip.MAX_SHEET_BYTES + 1)
+    except OSError as error:
+        print(f"draw.py: {arguments[0]}: {error.strerror}", file=sys.stderr)
+        return 2
+    try:
+        print(text(sheet))
+    except strip.Refusal as refusal:
+        print(refusal)
+        return 1
+    return 0
 
 
 if __name__ == "__main__":
-    if len(sys.argv) != 2:
-        sys.exit("usage: draw.py LIBRARY")
-    main(sys.argv[1])
+    sys.exit(main(sys.argv[1:]))

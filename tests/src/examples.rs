@@ -11,16 +11,17 @@ use crate::sheet::{PLAIN, STRAIGHT};
 pub fn examples() -> Vec<(&'static str, Draft)> {
     vec![
         ("first", document::first()),
-        ("panel", panel()),
+        ("amplifiers", amplifiers()),
         ("boards", boards()),
         ("wall", wall()),
+        ("panel", panel()),
     ]
 }
 
-/// A panel of twelve tiles: 12 tiles, 6 amplifiers, 3 converters, 2 connectors.
+/// The amplifiers of a panel: 12 tiles, 6 amplifiers, 3 converters, 2 connectors.
 ///
 /// The tiles are glued side by side, 40 units each. The clock runs straight down from the sixth.
-fn panel() -> Draft {
+fn amplifiers() -> Draft {
     let mut draft = Draft::new(480, &[12, 6, 3, 2]);
     spaced(&mut draft, 1, 40, 40);
     spaced(&mut draft, 2, 30, 0);
@@ -99,6 +100,24 @@ fn wall() -> Draft {
     }
     for hub in 1u16..=6 {
         draft = draft.edge(4, hub, hub.div_ceil(3), PLAIN);
+    }
+    draft
+}
+
+/// A panel: 12 sensor tiles, 3 readout boards and 1 ribbon cable.
+///
+/// The tiles are glued side by side, 40 units each. A board reads four of them and is 150 units
+/// wide. The cable leaves straight down from the middle board.
+fn panel() -> Draft {
+    let mut draft = Draft::new(480, &[12, 3, 1]);
+    spaced(&mut draft, 1, 40, 40);
+    spaced(&mut draft, 2, 150, 0);
+    for tile in 1..=12 {
+        draft = draft.edge(1, tile, tile.div_ceil(4), PLAIN);
+    }
+    for board in 1..=3 {
+        let kind = if board == 2 { STRAIGHT } else { PLAIN };
+        draft = draft.edge(2, board, 1, kind);
     }
     draft
 }

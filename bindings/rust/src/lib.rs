@@ -17,6 +17,8 @@
 use std::error::Error;
 use std::fmt;
 
+/// The version of the library.
+pub const VERSION: &str = env!("CARGO_PKG_VERSION");
 /// No sheet has more bytes.
 pub const MAX_SHEET_BYTES: usize = 5121;
 /// The greatest count of numbers in a sheet's number list.

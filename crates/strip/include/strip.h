@@ -25,6 +25,12 @@
 extern "C" {
 #endif
 
+/* The version of the library, as text and in its parts. */
+#define STRIP_VERSION "0.1.0"
+#define STRIP_VERSION_MAJOR 0
+#define STRIP_VERSION_MINOR 1
+#define STRIP_VERSION_PATCH 0
+
 /* No sheet has more bytes. */
 #define STRIP_MAX_SHEET_BYTES 5121
 /* The greatest count of numbers in a sheet's number list. */

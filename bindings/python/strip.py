@@ -1,0 +1,159 @@
+"""Path strips: read, write, draw and check sheets with the proved library.
+
+    >>> import strip
+    >>> sheet = bytes([0x53, 0x50, 0x31, 5, 2, 2, 1, 0, 1, 2, 1, 1, 1, 0, 1, 2, 1, 0])
+    >>> drawing = strip.draw(sheet)
+    >>> drawing.total, drawing.places
+    (1, [0, 1, 0])
+    >>> strip.check(sheet, drawing.places, drawing.certificate)
+    True
+    >>> strip.draw(sheet[:2])
+    Traceback (most recent call last):
+    strip.Refusal: refused 1 at 2
+
+Every sheet is allowed: one that has no answer raises Refusal. A number that its type cannot hold raises
+OverflowError.
+
+The shared library is the file that STRIP_LIBRARY names; without it, the one that make builds in the repository
+of this file, and where that is not there, the one that is installed.
+"""
+
+import ctypes
+import functools
+import os
+from array import array
+from typing import Iterable, List, NamedTuple, Tuple
+
+__version__ = "0.1.0"
+
+# No sheet has more bytes.
+MAX_SHEET_BYTES = 5121
+# The greatest count of numbers in a sheet's number list.
+MAX_NUMBERS = 2559
+# The greatest count of places in a drawing: one for each node.
+MAX_PLACES = 256
+# The greatest count of numbers in a certificate: one for each edge and two for each node.
+MAX_LIST = 1024
+
+# The numbers of the refusals.
+INPUT_ENDED = 1
+NOT_A_SHEET = 2
+NUMBER_FORM = 3
+OUTSIDE_LIMITS = 4
+SEPARATIONS_CROSSED = 5
+SOMETHING_FOLLOWS = 6
+SLICE_SHORT = 7
+NO_DRAWING = 8
+TOTAL_LARGE = 9
+
+
+class Refusal(Exception):
+    """Why there is no answer: the number of the refusal, and where: the offset of a byte, from 0 (in write: the
+    index of a number)."""
+
+    def __init__(self, number: int, offset: int):
+        super().__init__(number, offset)
+        self.number = number
+        self.offset = offset
+
+    def __str__(self) -> str:
+        """The refusal as the program place prints it."""
+        return f"refused {self.number} at {self.offset}"
+
+
+class Drawing(NamedTuple):
+    """The leftmost drawing of least total, with a certificate that no total is smaller."""
+
+    total: int
+    # a place for each node, layer by layer, each from left to right
+    places: List[int]
+    # document 01's pull list
+    certificate: List[int]
+
+
+def read(sheet: bytes) -> List[int]:
+    """The number list of a sheet."""
+    numbers = (_U16 * MAX_NUMBERS)()
+    count = _call("strip_read", _bytes(sheet), numbers)
+    return numbers[:count]
+
+
+def write(numbers: Iterable[int]) -> bytes:
+    """The sheet of a number list."""
+    sheet = (_U8 * MAX_SHEET_BYTES)()
+    count = _call("strip_write", _numbers(numbers), sheet)
+    return bytes(sheet[:count])
+
+
+def draw(sheet: bytes) -> Drawing:
+    """The leftmost drawing of least total."""
+    counts, edges = sizes(read(sheet))
+    places, certificate = (_U16 * MAX_PLACES)(), (_I32 * MAX_LIST)()
+    total = _call("strip_draw", _bytes(sheet), places, certificate)
+    nodes = sum(counts)
+    return Drawing(total, places[:nodes], certificate[: edges + 2 * nodes])
+
+
+def check(sheet: bytes, places: Iterable[int], certificate: Iterable[int]) -> bool:
+    """Whether the certificate shows that the places are a drawing of least total."""
+    return _call("strip_check", _bytes(sheet), _numbers(places), _signed(certificate)) == 1
+
+
+def sizes(numbers: List[int]) -> Tuple[List[int], int]:
+    """How many nodes each layer of a sheet has, and how many edges the sheet has, by its number list."""
+    counts, at = [], 2
+    for _ in range(numbers[1]):
+        counts.append(numbers[at])
+        at += 2 * numbers[at] - 1
+    return counts, numbers[at]
+
+
+# The elements of slices.
+_U8, _U16, _I32 = ctypes.c_uint8, ctypes.c_uint16, ctypes.c_int32
+
+# The slices that each function takes.
+_FUNCTIONS = {
+    "strip_read": (_U8, _U16),
+    "strip_write": (_U16, _U8),
+    "strip_draw": (_U8, _U16, _I32),
+    "strip_check": (_U8, _U16, _I32),
+}
+
+
+def _bytes(sheet: bytes) -> ctypes.Array:
+    """A slice of a sheet's bytes."""
+    return (_U8 * len(sheet)).from_buffer_copy(sheet)
+
+
+def _numbers(numbers: Iterable[int]) -> ctypes.Array:
+    """A slice of 16-bit numbers."""
+    elements = array("H", numbers)
+    return (_U16 * len(elements)).from_buffer(elements)
+
+
+def _signed(numbers: Iterable[int]) -> ctypes.Array:
+    """A slice of signed 32-bit numbers."""
+    elements = array("i", numbers)
+    return (_I32 * len(elements)).from_buffer(elements)
+
+
+def _call(name: str, *slices: ctypes.Array) -> int:
+    """The value of an answer, which is refusal * 2**32 + value."""
+    arguments = [argument for part in slices for argument in (part, len(part))]
+    number, value = divmod(getattr(_library(), name)(*arguments), 2**32)
+    if number != 0:
+        raise Refusal(number, value)
+    return value
+
+
+@functools.lru_cache(maxsize=None)
+def _library() -> ctypes.CDLL:
+    """The shared library with the types of its functions: for each slice a pointer and a count."""
+    built = os.path.join(os.path.dirname(os.path.abspath(__file__)), "../../target/lib/libstrip.so.0")
+    installed = "libstrip.so.0"
+    library = ctypes.CDLL(os.environ.get("STRIP_LIBRARY") or (built if os.path.exists(built) else installed))
+    for function, elements in _FUNCTIONS.items():
+        types = [kind for element in elements for kind in (ctypes.POINTER(element), ctypes.c_size_t)]
+        getattr(library, function).argtypes = types
+        getattr(library, function).restype = ctypes.c_uint64
+    return library
