@@ -76,5 +76,45 @@ fn wrapper_has_the_numbers_of_the_header() {
         ("STACK_BYTES", strip::STACK_BYTES as u32),
     ];
     let numbers = numbers.map(|(name, number)| (name.to_string(), number));
-    assert_eq!(named_numbers(), BTreeMap::from(numbers));
+    assert_eq!(limits_and_refusals(), BTreeMap::from(numbers));
+}
+
+/// The numbers of the header but those of its version.
+fn limits_and_refusals() -> BTreeMap<String, u32> {
+    let mut numbers = named_numbers();
+    numbers.retain(|name, _| !name.starts_with("VERSION"));
+    numbers
+}
+
+/// What Python prints, with the module at hand.
+fn python(code: &str) -> String {
+    let mut python = Command::new("python3");
+    python.env("PYTHONPATH", "bindings/python");
+    python.env("PYTHONDONTWRITEBYTECODE", "1");
+    output(python.args(["-c", &format!("import strip\n{code}")]))
+}
+
+#[test]
+fn python_module_has_the_numbers_of_the_header() {
+    let mut numbers = limits_and_refusals();
+    for name in ["OK", "STACK_BYTES"] {
+        numbers.remove(name).expect(name);
+    }
+    let lines = numbers.iter().map(|(name, n)| format!("{name} {n}\n"));
+    let code = "for name in sorted(n for n in vars(strip) if n.isupper() and n[0] != '_'):
+    print(name, vars(strip)[name])";
+    assert_eq!(python(code), lines.collect::<String>());
+}
+
+#[test]
+fn version_is_the_same_everywhere() {
+    let numbers = named_numbers();
+    let part = |name: &str| numbers[&format!("VERSION_{name}")];
+    let version = ["MAJOR", "MINOR", "PATCH"].map(part).map(|n| n.to_string());
+    let version = version.join(".");
+    let header = fs::read_to_string(root().join(HEADER)).expect("the header");
+    let text = format!("#define STRIP_VERSION \"{version}\"\n");
+    assert!(header.contains(&text), "{text}");
+    assert_eq!(strip::VERSION, version);
+    assert_eq!(python("print(strip.__version__)"), format!("{version}\n"));
 }

@@ -9,7 +9,7 @@ use std::os::unix::fs::PermissionsExt;
 use std::path::{Path, PathBuf};
 use std::process::Command;
 
-use tools::{compiler, folder, output, root};
+use tools::{compiler, folder, make, output, root, shared_library};
 
 /// Where the files go, below the folder of the test.
 const PREFIX: &str = "/prefix";
@@ -29,8 +29,8 @@ fn place(folder: &Path, name: &str) -> PathBuf {
 }
 
 /// Runs make with the files going below a folder.
-fn make(folder: &Path, target: &str) {
-    let mut make = Command::new("make");
+fn make_below(folder: &Path, target: &str) {
+    let mut make = make();
     make.arg(target).arg(format!("PREFIX={PREFIX}"));
     output(make.arg(format!("DESTDIR={}", folder.display())));
 }
@@ -65,6 +65,7 @@ fn flags(folder: &Path) -> String {
         value.unwrap_or_else(|| panic!("strip.pc has no {name}"))
     };
     assert_eq!(field("prefix="), PREFIX);
+    assert_eq!(field("Version: "), strip::VERSION);
     let below = |name| format!("{}{}", folder.display(), field(name));
     format!("{} {}", field("Cflags: "), field("Libs: "))
         .replace("${includedir}", &below("includedir="))
@@ -95,7 +96,9 @@ fn check_draws(program: &Path, flags: &[&str], libraries: &Path) {
     compiler.arg("examples/draw.c").args(flags);
     output(compiler.arg("-o").arg(program));
     let drawing = fs::read_to_string(root().join("examples/first.txt")).expect("a stored drawing");
-    let printed = output(Command::new(program).env("LD_LIBRARY_PATH", libraries));
+    let mut command = Command::new(program);
+    command.arg("examples/first.sheet");
+    let printed = output(command.env("LD_LIBRARY_PATH", libraries));
     assert_eq!(printed, drawing);
 }
 
@@ -128,8 +131,9 @@ fn check_static(folder: &Path) {
 
 #[test]
 fn installed_files_serve_and_go_again() {
+    shared_library();
     let folder = folder("install").join("installed");
-    make(&folder, "install");
+    make_below(&folder, "install");
     assert_eq!(files(&folder), expected(&folder));
     let link = fs::read_link(place(&folder, "lib/libstrip.so")).expect("a link");
     assert_eq!(link, Path::new("libstrip.so.0"));
@@ -140,20 +144,6 @@ fn installed_files_serve_and_go_again() {
     );
     check_shared(&folder);
     check_static(&folder);
-    make(&folder, "uninstall");
+    make_below(&folder, "uninstall");
     assert_eq!(files(&folder), BTreeMap::new());
-}
-
-#[test]
-fn kit_makes_what_is_missing_and_nothing_else() {
-    let commands = |library: &str, programs: &str| {
-        let mut make = Command::new("make");
-        make.args(["--dry-run", "install", library, programs]);
-        let commands = output(&mut make);
-        let kit = commands.lines().filter(|line| line.starts_with("rt "));
-        kit.map(str::to_owned).collect::<Vec<String>>()
-    };
-    let missing = commands("STATIC=target/none/libstrip.a", "PROGRAMS=none");
-    assert_eq!(missing, ["rt staticlib strip", "rt check none"]);
-    assert!(commands("STATIC=LICENSE", "PROGRAMS=").is_empty());
 }

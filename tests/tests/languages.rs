@@ -1,29 +1,74 @@
-//! The examples in C, C++, Python and Rust print what `place` prints for the same sheet.
+//! The examples in C, C++, Rust and Python: each draws the sheet in a file, prints what `place`
+//! prints, and says by its exit status whether the sheet was drawn.
 
 mod tools;
 
-use std::fs;
-use std::process::Command;
+use std::fs::{self, File};
+use std::path::{Path, PathBuf};
+use std::process::{Command, Stdio};
 
-use tools::{compiler, folder, output, root, LIBRARY};
+use second::document::{stair, NO_DRAWING, REFUSED};
+use second::examples::examples;
+use second::printed::printed;
+use second::sheet::PLAIN;
+use tools::{compiler, folder, output, root, run_in, shared_library, LIBRARY};
 
-/// What each example prints.
-fn drawing() -> String {
-    fs::read_to_string(root().join("examples/first.txt")).expect("a stored drawing")
+/// Checks the exit status, the output, and how many lines of errors a command leaves.
+fn check_ends(command: &mut Command, status: i32, printed: &str, errors: usize) {
+    let output = run_in(&root(), command);
+    assert_eq!(
+        String::from_utf8_lossy(&output.stdout),
+        printed,
+        "{command:?}"
+    );
+    let said = String::from_utf8_lossy(&output.stderr);
+    assert_eq!(said.lines().count(), errors, "{command:?}: {said}");
+    assert_eq!(output.status.code(), Some(status), "{command:?}: {said}");
 }
 
-/// Compiles an example with the static library, and runs it.
-fn compiled(name: &str, standard: &str, source: &str) -> String {
-    let program = folder(&format!("languages-{name}-{standard}")).join("draw");
+/// Checks an example on good and bad sheets, and on files that cannot be read.
+fn check_draws(name: &str, example: impl Fn() -> Command) {
+    for (name, draft) in examples() {
+        let path = format!("examples/{name}.sheet");
+        check_ends(example().arg(path), 0, &printed(&draft.bytes()), 0);
+    }
+    let folder = folder(&format!("languages-sheets-{name}"));
+    let file = folder.join("refused.sheet");
+    let refused = REFUSED.map(|(_, bytes)| bytes);
+    for bytes in refused.into_iter().chain([&NO_DRAWING[..], &[]]) {
+        fs::write(&file, bytes).expect("a sheet can be written");
+        check_ends(example().arg(&file), 1, &printed(bytes), 0);
+    }
+    for path in [folder.join("none"), folder] {
+        check_ends(example().arg(path), 2, "", 1);
+    }
+    check_ends(&mut example(), 2, "", 1);
+    check_ends(example().args(["examples/first.sheet", "more"]), 2, "", 1);
+}
+
+/// Checks that an example tells when its answer cannot be written.
+fn check_full(mut example: Command) {
+    let full = File::options().write(true).open("/dev/full");
+    example.stdout(Stdio::from(full.expect("Linux has a full device")));
+    check_ends(example.arg("examples/first.sheet"), 2, "", 1);
+}
+
+/// Compiles an example with the static library.
+fn compiled(name: &str, standard: &str, source: &str) -> PathBuf {
+    let stem = Path::new(source).file_stem().expect("a name");
+    let place = format!("languages-{name}-{standard}-{}", stem.to_string_lossy());
+    let program = folder(&place).join("program");
     let mut compiler = compiler(name, standard);
     output(compiler.arg(source).args(LIBRARY).arg("-o").arg(&program));
-    output(&mut Command::new(program))
+    program
 }
 
 #[test]
 fn c_example_draws() {
     for name in ["gcc", "clang"] {
-        assert_eq!(compiled(name, "c99", "examples/draw.c"), drawing());
+        let program = compiled(name, "c99", "examples/draw.c");
+        check_draws(name, || Command::new(&program));
+        check_full(Command::new(&program));
     }
 }
 
@@ -31,25 +76,90 @@ fn c_example_draws() {
 fn cpp_example_draws() {
     for name in ["g++", "clang++"] {
         for standard in ["c++11", "c++20"] {
-            assert_eq!(compiled(name, standard, "examples/draw.cpp"), drawing());
+            let program = compiled(name, standard, "examples/draw.cpp");
+            check_draws(&format!("{name}-{standard}"), || Command::new(&program));
+            check_full(Command::new(&program));
         }
     }
 }
 
 #[test]
-fn python_example_draws() {
-    output(Command::new("make").arg("lib"));
+fn rust_example_draws() {
+    let target = folder("languages-rust");
+    let mut cargo = Command::new(env!("CARGO"));
+    cargo
+        .args(["build", "--quiet", "--offline", "--locked"])
+        .args(["--package", "strip", "--example", "draw", "--target-dir"])
+        .arg(&target);
+    output(&mut cargo);
+    let program = target.join("debug/examples/draw");
+    check_draws("rust", || Command::new(&program));
+    check_full(Command::new(&program));
+}
+
+/// The command python3, which finds the module and leaves no files beside it.
+fn python() -> Command {
+    shared_library();
     let mut python = Command::new("python3");
-    python.args(["examples/draw.py", "target/lib/libstrip.so.0"]);
-    assert_eq!(output(&mut python), drawing());
+    python.env("PYTHONPATH", "bindings/python");
+    python.env("PYTHONDONTWRITEBYTECODE", "1");
+    python.env_remove("STRIP_LIBRARY");
+    python
 }
 
 #[test]
-fn rust_example_draws() {
-    let mut cargo = Command::new(env!("CARGO"));
-    cargo
-        .args(["run", "--quiet", "--offline", "--locked"])
-        .args(["--package", "strip", "--example", "draw", "--target-dir"])
-        .arg(folder("languages-rust"));
-    assert_eq!(output(&mut cargo), drawing());
+fn python_example_draws() {
+    check_draws("python", || {
+        let mut python = python();
+        python.arg("examples/draw.py");
+        python
+    });
+}
+
+#[test]
+fn python_module_answers() {
+    let mut python = python();
+    python.args([
+        "-m",
+        "unittest",
+        "discover",
+        "--start-directory",
+        "bindings/python",
+    ]);
+    let tests = run_in(&root(), &mut python);
+    let said = String::from_utf8_lossy(&tests.stderr);
+    assert!(tests.status.success(), "{said}");
+    assert!(
+        !said.contains("Ran 0 tests") && !said.contains("skipped"),
+        "{said}"
+    );
+}
+
+#[test]
+fn tour_reads_writes_draws_and_checks() {
+    for name in ["gcc", "clang"] {
+        let program = compiled(name, "c99", "examples/tour.c");
+        let sheet = folder(&format!("languages-tour-{name}")).join("stair.sheet");
+        fs::write(&sheet, stair(0, PLAIN).bytes()).expect("a sheet can be written");
+        let tour = |width: &str| {
+            let mut command = Command::new(&program);
+            command.arg(&sheet).arg(width);
+            command
+        };
+        check_ends(&mut tour("0"), 1, "draw: refused 8 at 0\n", 0);
+        for width in [1, 2, 3, 4095] {
+            let text = printed(&stair(width, PLAIN).bytes());
+            let total = text.lines().next().expect("a total");
+            let told = format!("{total}\nchecked: yes\n");
+            check_ends(&mut tour(&width.to_string()), 0, &told, 0);
+        }
+        for width in ["4096", "65535", "65536", "99999999999999999999"] {
+            check_ends(&mut tour(width), 1, "write: refused 4 at 0\n", 0);
+        }
+        fs::write(&sheet, REFUSED[2].1).expect("a sheet can be written");
+        check_ends(&mut tour("1"), 1, "read: refused 3 at 3\n", 0);
+        fs::remove_file(&sheet).expect("the sheet is there");
+        check_ends(&mut tour("1"), 2, "", 1);
+        check_ends(&mut Command::new(&program), 2, "", 1);
+    }
 }

@@ -1,10 +1,12 @@
-//! Compilers and other programs, run from the root of the repository.
+//! Compilers and other programs, run from the root of the repository. Not every test file needs all
+//! of them.
 
 use std::fs;
 use std::path::{Path, PathBuf};
-use std::process::Command;
+use std::process::{Command, Output};
+use std::sync::Once;
 
-/// The header and the static library, as a compiler takes them; not every test file needs them.
+/// The header and the static library, as a compiler takes them.
 #[allow(dead_code)]
 pub const LIBRARY: [&str; 2] = ["-Icrates/strip/include", "target/staticlib/libstrip.a"];
 
@@ -23,12 +25,18 @@ pub fn folder(name: &str) -> PathBuf {
     folder
 }
 
-/// What a command prints. It must be there and succeed.
-pub fn output(command: &mut Command) -> String {
-    let output = match command.current_dir(root()).output() {
+/// What a command leaves, run in a folder. It must be there.
+pub fn run_in(folder: &Path, command: &mut Command) -> Output {
+    match command.current_dir(folder).output() {
         Ok(output) => output,
         Err(error) => panic!("cannot run {:?}: {error}", command.get_program()),
-    };
+    }
+}
+
+/// What a command prints. It must be there and succeed.
+#[allow(dead_code)]
+pub fn output(command: &mut Command) -> String {
+    let output = run_in(&root(), command);
     let printed = String::from_utf8_lossy(&output.stdout);
     assert!(
         output.status.success(),
@@ -40,9 +48,29 @@ pub fn output(command: &mut Command) -> String {
 }
 
 /// A command that compiles and allows no warning.
+#[allow(dead_code)]
 pub fn compiler(name: &str, standard: &str) -> Command {
     let mut command = Command::new(name);
     command.arg(format!("-std={standard}"));
     command.args(["-Wall", "-Wextra", "-pedantic", "-Werror"]);
     command
+}
+
+/// The command make, on its own even where make runs the tests.
+#[allow(dead_code)]
+pub fn make() -> Command {
+    let mut command = Command::new("make");
+    for name in ["MAKEFLAGS", "MFLAGS", "MAKELEVEL", "MAKEOVERRIDES"] {
+        command.env_remove(name);
+    }
+    command
+}
+
+/// Makes the shared library of the static one that is there, once in a test file.
+#[allow(dead_code)]
+pub fn shared_library() {
+    static MADE: Once = Once::new();
+    MADE.call_once(|| {
+        output(make().args(["lib", "RT=:"]));
+    });
 }

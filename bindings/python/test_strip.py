@@ -1,0 +1,113 @@
+"""Tests of the module strip: python3 -m unittest discover --start-directory bindings/python"""
+
+import doctest
+import os
+import subprocess
+import sys
+import unittest
+
+import strip
+
+# Document 01's first sheet, with its number list, places and pull list.
+SHEET = bytes([0x53, 0x50, 0x31, 5, 2, 2, 1, 0, 1, 2, 1, 1, 1, 0, 1, 2, 1, 0])
+NUMBERS = [5, 2, 2, 1, 0, 1, 2, 1, 1, 1, 0, 1, 2, 1, 0]
+PLACES = [0, 1, 0]
+CERTIFICATE = [1, -1, 0, 1, 0, 0, 0, 0]
+
+
+def load_tests(loader, tests, pattern):
+    """The examples of the module's text are tests too."""
+    tests.addTests(doctest.DocTestSuite(strip))
+    return tests
+
+
+class Answers(unittest.TestCase):
+    """What the four functions return."""
+
+    def test_read(self):
+        self.assertEqual(strip.read(SHEET), NUMBERS)
+        self.assertEqual(strip.sizes(NUMBERS), ([2, 1], 2))
+
+    def test_write(self):
+        self.assertEqual(strip.write(NUMBERS), SHEET)
+        self.assertEqual(strip.write(iter([300, 1, 1, 0])), bytes([0x53, 0x50, 0x31, 0xAC, 0x02, 1, 1, 0]))
+
+    def test_draw(self):
+        drawing = strip.draw(SHEET)
+        self.assertEqual((drawing.total, drawing.places), (1, PLACES))
+        self.assertEqual(len(drawing.certificate), len(CERTIFICATE))
+        self.assertIs(strip.check(SHEET, drawing.places, drawing.certificate), True)
+
+    def test_check(self):
+        self.assertIs(strip.check(SHEET, PLACES, CERTIFICATE), True)
+        self.assertIs(strip.check(SHEET, PLACES + [9], CERTIFICATE + [9]), True)
+        self.assertIs(strip.check(SHEET, PLACES, [0] * 8), False)
+        self.assertIs(strip.check(SHEET, [0, 2, 0], CERTIFICATE), False)
+
+    def test_longest(self):
+        """As many nodes and edges as a sheet can have."""
+        layer = [64] + [1, 0] * 63
+        edges = [number for at in range(512) for number in (1 + at % 3, 1 + at % 64, 1 + at // 8, 0)]
+        sheet = strip.write([4095, 4] + layer * 4 + [512] + edges)
+        self.assertEqual(len(strip.read(sheet)), strip.MAX_NUMBERS)
+        drawing = strip.draw(sheet)
+        self.assertEqual(len(drawing.places), strip.MAX_PLACES)
+        self.assertEqual(len(drawing.certificate), strip.MAX_LIST)
+        self.assertTrue(strip.check(sheet, drawing.places, drawing.certificate))
+
+    def test_any_bytes(self):
+        for kind in (bytearray, memoryview):
+            self.assertEqual(strip.draw(kind(SHEET)).places, PLACES)
+
+
+class Refusals(unittest.TestCase):
+    """What is refused, and what no call takes."""
+
+    def refused(self, number, offset, call, *arguments):
+        with self.assertRaises(strip.Refusal) as caught:
+            call(*arguments)
+        refusal = caught.exception
+        self.assertEqual((refusal.number, refusal.offset), (number, offset))
+        self.assertEqual(str(refusal), f"refused {number} at {offset}")
+
+    def test_sheets(self):
+        for call in (strip.read, strip.draw):
+            self.refused(strip.INPUT_ENDED, 0, call, b"")
+            self.refused(strip.NOT_A_SHEET, 0, call, b"SP2")
+            self.refused(strip.NUMBER_FORM, 3, call, b"SP1\x80\x00")
+            self.refused(strip.OUTSIDE_LIMITS, 4, call, b"SP1\x05\x00")
+            self.refused(strip.SEPARATIONS_CROSSED, 7, call, b"SP1\x05\x01\x02\x03\x02")
+            self.refused(strip.SOMETHING_FOLLOWS, 7, call, b"SP1\x00\x01\x01\x00\x00")
+        self.refused(strip.NO_DRAWING, 0, strip.draw, b"SP1\x00\x01\x02\x01\x00\x00")
+
+    def test_numbers(self):
+        self.refused(strip.INPUT_ENDED, 0, strip.write, [])
+        self.refused(strip.OUTSIDE_LIMITS, 0, strip.write, [65535])
+        self.refused(strip.SOMETHING_FOLLOWS, 15, strip.write, NUMBERS + [0])
+
+    def test_slices(self):
+        self.refused(strip.SLICE_SHORT, 0, strip.check, SHEET, PLACES[:2], CERTIFICATE)
+        self.refused(strip.SLICE_SHORT, 0, strip.check, SHEET, PLACES, CERTIFICATE[:7])
+
+    def test_types(self):
+        for numbers in ([-1], [65536]):
+            self.assertRaises(OverflowError, strip.write, numbers)
+            self.assertRaises(OverflowError, strip.check, SHEET, numbers, CERTIFICATE)
+        self.assertRaises(OverflowError, strip.check, SHEET, PLACES, [2**31])
+        self.assertRaises(TypeError, strip.draw, "SP1")
+        self.assertRaises(TypeError, strip.write, [0.5])
+
+
+class Library(unittest.TestCase):
+    """Which shared library is called."""
+
+    def test_named(self):
+        """A library that STRIP_LIBRARY names is called, and no other."""
+        environment = dict(os.environ, STRIP_LIBRARY="/nowhere/libstrip.so")
+        command = [sys.executable, "-c", "import strip; strip.read(b'')"]
+        ended = subprocess.run(command, env=environment, capture_output=True, text=True)
+        self.assertIn("/nowhere/libstrip.so", ended.stderr)
+
+
+if __name__ == "__main__":
+    unittest.main()
