@@ -27,7 +27,7 @@ VERSION = $(shell sed -n 's/^\#define STRIP_VERSION "\(.*\)"/\1/p' $(HEADER))
 RT = rt
 .NOTPARALLEL:
 
-all: lib $(PROGRAM)
+all: $(PROGRAM) lib
 
 lib: $(SHARED)
 
@@ -44,8 +44,7 @@ $(SHARED): $(STATIC) crates/strip/exports.map Makefile
 
 # The kit leaves a program as it is where nothing has changed; its time then says when that was found.
 $(PROGRAM): FORCE
-	$(RT) check $(@F)
-	touch -c $@
+	$(RT) check $(@F) && touch -c $@
 
 # The files of a crate and of those that it uses.
 crates = $(1) $(shell sed -n 's/^$(1): *//p' crates.txt)

@@ -1,5 +1,5 @@
 //! Links the static library. `STRIP_LIB_DIR` names the folder that has it; without it, it is where
-//! `rt staticlib strip` puts it.
+//! `make` puts it.
 
 use std::env;
 use std::path::{Path, PathBuf};
@@ -12,10 +12,7 @@ fn main() {
     };
     let library = folder.join("libstrip.a");
     if !library.exists() {
-        panic!(
-            "{} is missing; make it with: rt staticlib strip",
-            library.display()
-        );
+        panic!("{} is missing, build it with: make", library.display());
     }
     println!("cargo:rerun-if-env-changed=STRIP_LIB_DIR");
     println!("cargo:rerun-if-changed={}", library.display());

@@ -143,7 +143,7 @@ fn kit_is_asked_each_time() {
     let repository = Repository::new("asked");
     for _ in 0..2 {
         assert_eq!(repository.said(&[], true), "");
-        assert_eq!(repository.asked(), ["staticlib strip", "check place"]);
+        assert_eq!(repository.asked(), ["check place", "staticlib strip"]);
     }
     for file in BUILT {
         assert!(repository.has(file), "{file}");

@@ -1,0 +1,161 @@
+//! The pages: links and paths lead to something, and the commands of a new user work as they stand.
+
+mod tools;
+
+use std::env;
+use std::fs;
+use std::path::{Path, PathBuf};
+use std::process::Command;
+
+use tools::{folder, root, run_in, shared_library, NO_KIT};
+
+/// The pages, from the root of the repository.
+fn pages() -> Vec<PathBuf> {
+    let docs = fs::read_dir(root().join("docs")).expect("the pages");
+    let docs = docs.map(|entry| Path::new("docs").join(entry.expect("a page").file_name()));
+    let mut pages = vec!["README.md".into(), "CHANGELOG.md".into()];
+    pages.extend(docs);
+    pages
+}
+
+/// The text of a page.
+fn text(page: &Path) -> String {
+    fs::read_to_string(root().join(page)).unwrap_or_else(|error| panic!("{page:?}: {error}"))
+}
+
+/// What stands between two marks, wherever it does, on one line.
+fn between<'a>(text: &'a str, open: &'a str, close: &'a str) -> impl Iterator<Item = &'a str> {
+    let parts = text.split(open).skip(1);
+    parts.filter_map(move |part| part.split_once(close).map(|(inside, _)| inside))
+}
+
+/// The anchors of a page's headings: in small letters, with a hyphen for each space.
+fn anchors(text: &str) -> Vec<String> {
+    let headings = text.lines().filter(|line| line.starts_with('#'));
+    let anchor = |heading: &str| {
+        let kept = heading.trim_start_matches('#').trim().to_lowercase();
+        let kept = kept
+            .chars()
+            .filter(|c| c.is_alphanumeric() || " -_".contains(*c));
+        kept.collect::<String>().replace(' ', "-")
+    };
+    headings.map(anchor).collect()
+}
+
+#[test]
+fn links_lead_to_pages_and_headings() {
+    let mut count = 0;
+    for page in pages() {
+        for link in between(&text(&page), "](", ")") {
+            let (file, anchor) = link.split_once('#').unwrap_or((link, ""));
+            let target = page.with_file_name(file);
+            assert!(root().join(&target).exists(), "{page:?}: {link}");
+            let found = anchor.is_empty() || anchors(&text(&target)).iter().any(|a| a == anchor);
+            assert!(found, "{page:?}: {link}");
+            count += 1;
+        }
+    }
+    assert!(count > 20, "{count} links");
+}
+
+#[test]
+fn paths_that_are_named_are_there() {
+    let folders = [
+        "crates/",
+        "docs/",
+        "tests/",
+        "examples/",
+        "bindings/",
+        "fuzz/",
+    ];
+    let mut count = 0;
+    for page in pages() {
+        let text = text(&page);
+        // code spans are the odd parts between backticks
+        for path in text.split('`').skip(1).step_by(2) {
+            let named = folders.iter().any(|folder| path.starts_with(folder));
+            let pattern = path.contains(|c: char| "*{ ".contains(c)) || path.contains("NAME");
+            if named && !pattern {
+                assert!(root().join(path).exists(), "{page:?}: {path}");
+                count += 1;
+            }
+        }
+    }
+    assert!(count > 40, "{count} paths");
+}
+
+/// The commands of a page: its indented lines that start with one.
+fn commands(page: &str) -> Vec<String> {
+    const STARTS: [&str; 9] = [
+        "make",
+        "target/",
+        "cc ",
+        "c++ ",
+        "cargo run",
+        "export ",
+        "PYTHONPATH=",
+        "STRIP_LIB_DIR=",
+        "LD_LIBRARY_PATH=",
+    ];
+    let text = text(Path::new(page));
+    let lines = text.lines().filter_map(|line| line.strip_prefix("    "));
+    let commands = lines.filter(|line| STARTS.iter().any(|start| line.starts_with(start)));
+    let possible =
+        |line: &&str| *line != "make check" && (has_pkg_config() || !line.contains("pkg-config"));
+    commands.filter(possible).map(str::to_owned).collect()
+}
+
+/// Whether pkg-config is installed: nothing but its own commands needs it.
+fn has_pkg_config() -> bool {
+    Command::new("pkg-config").arg("--version").output().is_ok()
+}
+
+/// Checks that the commands of a page succeed one after the other, for a new user, and that each
+/// that draws the panel prints its drawing.
+fn check_commands(page: &str, least: usize) {
+    let commands = commands(page);
+    assert!(commands.len() >= least, "{commands:?}");
+    assert_eq!(commands[0], "make");
+    shared_library();
+    let home = folder(&format!("pages-{}", page.replace('/', "-")));
+    let mut bash = Command::new("bash");
+    bash.args(["-e", "-c", &commands.join("\n")]);
+    for name in [
+        "PKG_CONFIG_PATH",
+        "LD_LIBRARY_PATH",
+        "STRIP_LIBRARY",
+        "STRIP_LIB_DIR",
+    ] {
+        bash.env_remove(name);
+    }
+    // tools that keep their files in the old home still find them
+    let old = PathBuf::from(env::var_os("HOME").expect("a home"));
+    for (name, folder) in [("CARGO_HOME", ".cargo"), ("RUSTUP_HOME", ".rustup")] {
+        bash.env(name, env::var_os(name).unwrap_or(old.join(folder).into()));
+    }
+    bash.env("PYTHONDONTWRITEBYTECODE", "1");
+    bash.env("MAKEFLAGS", format!("-- {}", NO_KIT.replace(' ', "\\ ")));
+    bash.env("HOME", &home);
+    let output = run_in(&root(), &mut bash);
+    assert!(output.status.success(), "{page}: {output:?}");
+    let drawing = fs::read_to_string(root().join("examples/panel.txt")).expect("a drawing");
+    let printed = String::from_utf8_lossy(&output.stdout);
+    let draws = commands
+        .iter()
+        .filter(|line| line.ends_with("examples/panel.sheet"));
+    assert_eq!(
+        printed.matches(&drawing).count(),
+        draws.count(),
+        "{printed}"
+    );
+}
+
+#[test]
+fn commands_of_the_readme_work() {
+    check_commands("README.md", 4);
+}
+
+#[test]
+fn commands_for_the_library_work() {
+    check_commands("docs/LIBRARY.md", 17);
+}
