@@ -8,7 +8,7 @@ use std::fs;
 use std::process::Command;
 
 use strip::Refusal;
-use tools::{compiler, folder, output, root, LIBRARY};
+use tools::{compiler, folder, output, python, root, LIBRARY};
 
 /// The header, from the root of the repository.
 const HEADER: &str = "crates/strip/include/strip.h";
@@ -87,11 +87,8 @@ fn limits_and_refusals() -> BTreeMap<String, u32> {
 }
 
 /// What Python prints, with the module at hand.
-fn python(code: &str) -> String {
-    let mut python = Command::new("python3");
-    python.env("PYTHONPATH", "bindings/python");
-    python.env("PYTHONDONTWRITEBYTECODE", "1");
-    output(python.args(["-c", &format!("import strip\n{code}")]))
+fn told_by_python(code: &str) -> String {
+    output(python().args(["-c", &format!("import strip\n{code}")]))
 }
 
 #[test]
@@ -103,7 +100,7 @@ fn python_module_has_the_numbers_of_the_header() {
     let lines = numbers.iter().map(|(name, n)| format!("{name} {n}\n"));
     let code = "for name in sorted(n for n in vars(strip) if n.isupper() and n[0] != '_'):
     print(name, vars(strip)[name])";
-    assert_eq!(python(code), lines.collect::<String>());
+    assert_eq!(told_by_python(code), lines.collect::<String>());
 }
 
 #[test]
@@ -116,5 +113,8 @@ fn version_is_the_same_everywhere() {
     let text = format!("#define STRIP_VERSION \"{version}\"\n");
     assert!(header.contains(&text), "{text}");
     assert_eq!(strip::VERSION, version);
-    assert_eq!(python("print(strip.__version__)"), format!("{version}\n"));
+    assert_eq!(
+        told_by_python("print(strip.__version__)"),
+        format!("{version}\n")
+    );
 }

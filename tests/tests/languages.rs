@@ -11,7 +11,7 @@ use second::document::{stair, NO_DRAWING, REFUSED};
 use second::examples::examples;
 use second::printed::printed;
 use second::sheet::PLAIN;
-use tools::{compiler, folder, output, root, run_in, shared_library, LIBRARY};
+use tools::{compiler, folder, output, python, root, run_in, shared_library, LIBRARY};
 
 /// Checks the exit status, the output, and how many lines of errors a command leaves.
 fn check_ends(command: &mut Command, status: i32, printed: &str, errors: usize) {
@@ -97,18 +97,9 @@ fn rust_example_draws() {
     check_full(Command::new(&program));
 }
 
-/// The command python3, which finds the module and leaves no files beside it.
-fn python() -> Command {
-    shared_library();
-    let mut python = Command::new("python3");
-    python.env("PYTHONPATH", "bindings/python");
-    python.env("PYTHONDONTWRITEBYTECODE", "1");
-    python.env_remove("STRIP_LIBRARY");
-    python
-}
-
 #[test]
 fn python_example_draws() {
+    shared_library();
     check_draws("python", || {
         let mut python = python();
         python.arg("examples/draw.py");
@@ -118,6 +109,7 @@ fn python_example_draws() {
 
 #[test]
 fn python_module_answers() {
+    shared_library();
     let mut python = python();
     python.args([
         "-m",

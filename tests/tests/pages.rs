@@ -129,9 +129,10 @@ fn check_commands(page: &str, least: usize) {
         bash.env_remove(name);
     }
     // tools that keep their files in the old home still find them
-    let old = PathBuf::from(env::var_os("HOME").expect("a home"));
     for (name, folder) in [("CARGO_HOME", ".cargo"), ("RUSTUP_HOME", ".rustup")] {
-        bash.env(name, env::var_os(name).unwrap_or(old.join(folder).into()));
+        if let (None, Some(old)) = (env::var_os(name), env::var_os("HOME")) {
+            bash.env(name, Path::new(&old).join(folder));
+        }
     }
     bash.env("PYTHONDONTWRITEBYTECODE", "1");
     bash.env("MAKEFLAGS", format!("-- {}", NO_KIT.replace(' ', "\\ ")));

@@ -78,3 +78,13 @@ pub fn shared_library() {
         output(make().args(["lib", NO_KIT]));
     });
 }
+
+/// The command python3, which finds the module `strip` and leaves no files beside it.
+#[allow(dead_code)]
+pub fn python() -> Command {
+    let mut command = Command::new("python3");
+    command.env("PYTHONPATH", "bindings/python");
+    command.env("PYTHONDONTWRITEBYTECODE", "1");
+    command.env_remove("STRIP_LIBRARY");
+    command
+}
