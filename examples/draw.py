@@ -1,6 +1,6 @@
 """Draws the sheet in a file, and prints the drawing or the refusal as the program place does.
 
-Exit status: 0 drawn, 1 refused, 2 the file cannot be read.
+Exit status: 0 drawn, 1 refused, 2 the file cannot be read or the answer cannot be written.
 """
 
 import sys
@@ -32,11 +32,16 @@ def main(arguments):
         print(f"draw.py: {arguments[0]}: {error.strerror}", file=sys.stderr)
         return 2
     try:
-        print(text(sheet))
+        answer, status = text(sheet), 0
     except strip.Refusal as refusal:
-        print(refusal)
-        return 1
-    return 0
+        answer, status = refusal, 1
+    try:
+        with open(sys.stdout.fileno(), "w", closefd=False) as output:
+            print(answer, file=output)
+    except OSError as error:
+        print(f"draw.py: {error.strerror}", file=sys.stderr)
+        return 2
+    return status
 
 
 if __name__ == "__main__":

@@ -127,13 +127,13 @@ def _bytes(sheet: bytes) -> ctypes.Array:
 
 def _numbers(numbers: Iterable[int]) -> ctypes.Array:
     """A slice of 16-bit numbers."""
-    elements = array("H", numbers)
+    elements = array("H", iter(numbers))
     return (_U16 * len(elements)).from_buffer(elements)
 
 
 def _signed(numbers: Iterable[int]) -> ctypes.Array:
     """A slice of signed 32-bit numbers."""
-    elements = array("i", numbers)
+    elements = array("i", iter(numbers))
     return (_I32 * len(elements)).from_buffer(elements)
 
 

@@ -83,6 +83,7 @@ class Refusals(unittest.TestCase):
     def test_numbers(self):
         self.refused(strip.INPUT_ENDED, 0, strip.write, [])
         self.refused(strip.OUTSIDE_LIMITS, 0, strip.write, [65535])
+        self.refused(strip.INPUT_ENDED, 2, strip.write, bytes([5, 1]))
         self.refused(strip.SOMETHING_FOLLOWS, 15, strip.write, NUMBERS + [0])
 
     def test_slices(self):

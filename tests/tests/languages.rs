@@ -100,11 +100,13 @@ fn rust_example_draws() {
 #[test]
 fn python_example_draws() {
     shared_library();
-    check_draws("python", || {
+    let example = || {
         let mut python = python();
         python.arg("examples/draw.py");
         python
-    });
+    };
+    check_draws("python", example);
+    check_full(example());
 }
 
 #[test]
