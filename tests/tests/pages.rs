@@ -160,3 +160,58 @@ fn commands_of_the_readme_work() {
 fn commands_for_the_library_work() {
     check_commands("docs/LIBRARY.md", 17);
 }
+
+/// The bytes of a text in hexadecimal.
+fn bytes(text: &str) -> Vec<u8> {
+    let byte = |text| u8::from_str_radix(text, 16).expect("a byte");
+    text.split_whitespace().map(byte).collect()
+}
+
+#[test]
+fn refusals_of_the_format_are_given() {
+    let page = text(Path::new("docs/FORMAT.md"));
+    let rows = page
+        .lines()
+        .filter(|line| line.starts_with("| ") && line.contains(" | `53 "));
+    let mut numbers = Vec::new();
+    for row in rows {
+        let cells: Vec<&str> = row.split('|').map(str::trim).collect();
+        let (number, example) = (cells[1].parse().expect("a number"), cells[4]);
+        let (sheet, behind) = example[1..].split_once('`').expect("bytes");
+        let offset = behind.trim_start_matches(": ").parse().unwrap_or(0);
+        let room = if behind == " with no place" {
+            0
+        } else {
+            strip::MAX_PLACES
+        };
+        let (mut places, mut list) = (vec![0; room], [0; strip::MAX_LIST]);
+        let answer = strip::draw(&bytes(sheet), &mut places, &mut list);
+        assert_eq!(answer, Err(strip::Refusal { number, offset }), "{row}");
+        numbers.push(number);
+    }
+    assert_eq!(numbers, [1, 2, 3, 4, 5, 6, 7, 8]);
+}
+
+#[test]
+fn first_sheet_of_the_format_is_the_example() {
+    let page = text(Path::new("docs/FORMAT.md"));
+    let sheet = fs::read(root().join("examples/first.sheet")).expect("a sheet");
+    let dump = page
+        .lines()
+        .skip_while(|line| !line.starts_with("    offset  bytes"));
+    let mut found = Vec::new();
+    for line in dump.skip(1).take_while(|line| !line.is_empty()) {
+        let (offset, line) = line.trim().split_once("  ").expect("an offset");
+        assert_eq!(offset, found.len().to_string());
+        let (part, _) = line.split_once("  ").expect("bytes and what they are");
+        found.extend(bytes(part));
+    }
+    assert_eq!(found, sheet);
+    let mut numbers = [0; strip::MAX_NUMBERS];
+    let count = strip::read(&sheet, &mut numbers).expect("a good sheet");
+    let list = numbers[..count]
+        .iter()
+        .map(u16::to_string)
+        .collect::<Vec<_>>();
+    assert!(page.contains(&format!("its number list is {}:", list.join(", "))));
+}
