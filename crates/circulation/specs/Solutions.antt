@@ -41,10 +41,20 @@ pub record Cleared (nodes₀ nodes chains₀ chains : List ℕ) : Type 0 where
   pub chains-size : length chains ≡ length chains₀
   pub chains-zero : (i : ℕ) → at chains i ≡ 0
 
--- what each answer says, with flows, nodes and chains before and after
-abbrev pub Means : (N : Net) (x₀ nodes₀ chains₀ x nodes chains : List ℕ) → Answer → Type 0
-Means N x₀ nodes₀ chains₀ x nodes chains Solved =
+-- what is found: a solution, or input that is not taken
+pub data Finding : Type 0 where
+  solved : Finding
+  malformed : Finding
+
+-- what each case of the code's answer stands for
+abbrev pub finding : Answer → Finding
+finding Solved = Finding.solved
+finding Malformed = Finding.malformed
+
+-- what each finding says, with flows, nodes and chains before and after; which of the flows that make a solution is left open
+abbrev pub Means : (N : Net) (x₀ nodes₀ chains₀ x nodes chains : List ℕ) → Finding → Type 0
+Means N x₀ nodes₀ chains₀ x nodes chains Finding.solved =
     Valid N (size nodes₀) (potentials nodes₀) × (length x ≡ length x₀) × Cleared nodes₀ nodes chains₀ chains
     × Solution N (size nodes₀) (at x) (at (potentials nodes))
-Means N x₀ nodes₀ chains₀ x nodes chains Malformed =
+Means N x₀ nodes₀ chains₀ x nodes chains Finding.malformed =
     (Valid N (size nodes₀) (potentials nodes₀) → ⊥) × (x ≡ x₀) × (nodes ≡ nodes₀) × (chains ≡ chains₀)

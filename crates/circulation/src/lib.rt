@@ -29,12 +29,12 @@ ghost use Prim.Native.Nat.{ℕ};
 ghost use lib.ListN.{length};
 ghost use Rattle.circulation.specs.inside.Finish.{Zeroed};
 ghost use Rattle.circulation.specs.inside.Steps.{Ends};
-ghost use Rattle.circulation.specs.Solutions.{Means, Solution};
+ghost use Rattle.circulation.specs.Solutions.{finding, Means, Solution};
 ghost use Rattle.circulation.specs.Input.{Valid};
 ghost use Rattle.network.specs.Net.{at, net};
 ghost use Rattle.circulation.specs.Nodes.{«node-stride», potentials, size};
 
-// What solve answers.
+// What solve answers: a solution, or that the input is not taken.
 pub enum Answer {
     Solved,
     Malformed,
@@ -48,9 +48,10 @@ enum Found {
 
 // Flows that balance, and the leftmost potentials of least cost, from the potentials in nodes; its other numbers are room
 // to work in. chains is room for hints: fast where it has 1 + 3 · nodes + 2 · arcs numbers, slower where it is shorter.
-// At the end the potentials are relative to ground's, with 2^28 added, and all room is 0.
+// At the end the potentials are relative to ground's, with 2^28 added, and all room is 0. Which flows it leaves is open: any
+// that are allowed, balanced and in complementary slackness with the potentials. Malformed leaves all slices as they were.
 pub fn solve(arcs: &[u32], flows: &mut [u32], nodes: &mut [u32], chains: &mut [u32]) -> Answer
-    ensures { λ r. ⌜ Means (net (now (arcs .entry)) (length (now (flows .entry)))) (now (flows .entry)) (now (nodes .entry)) (now (chains .entry)) (now (flows .exit)) (now (nodes .exit)) (now (chains .exit)) r ⌝ }
+    ensures { λ r. ⌜ Means (net (now (arcs .entry)) (length (now (flows .entry)))) (now (flows .entry)) (now (nodes .entry)) (now (chains .entry)) (now (flows .exit)) (now (nodes .exit)) (now (chains .exit)) (finding r) ⌝ }
 {
     if !valid(arcs, nodes, flows.len()) {
         return Answer::Malformed;

@@ -38,8 +38,20 @@ pub record Solves (N : Net) (n : ℕ) (values : List ℕ) : Type 0 where
 pub record Cleared (n : ℕ) (values : List ℕ) : Type 0 where
   pub zero : (u : ℕ) → u < n → at values u ≡ 0
 
--- what each answer says, with the values before and after
-abbrev pub Means : Net → ℕ → List ℕ → List ℕ → Answer → Type 0
-Means N n old new Solved = Taken N n old × RestKept n old new × Solves N n new
-Means N n old new NoSolution = Taken N n old × RestKept n old new × Cleared n new × NoneFeasible (meant N n)
-Means N n old new Malformed = (Taken N n old → ⊥) × (new ≡ old)
+-- what is found: the lowest potentials; that there are none, an answer and no refusal; or input that is not taken
+pub data Finding : Type 0 where
+  solved : Finding
+  none : Finding
+  malformed : Finding
+
+-- what each case of the code's answer stands for
+abbrev pub finding : Answer → Finding
+finding Solved = Finding.solved
+finding NoSolution = Finding.none
+finding Malformed = Finding.malformed
+
+-- what each finding says, with the values before and after
+abbrev pub Means : Net → ℕ → List ℕ → List ℕ → Finding → Type 0
+Means N n old new Finding.solved = Taken N n old × RestKept n old new × Solves N n new
+Means N n old new Finding.none = Taken N n old × RestKept n old new × Cleared n new × NoneFeasible (meant N n)
+Means N n old new Finding.malformed = (Taken N n old → ⊥) × (new ≡ old)

@@ -9,7 +9,7 @@ mod sweep;
 use crate::form::well_formed;
 use crate::sweep::run;
 ghost use Rattle.network.specs.Net.{net};
-ghost use Rattle.difference.specs.Solutions.{Means};
+ghost use Rattle.difference.specs.Solutions.{finding, Means};
 
 // What a step found: every constraint held; some value rose; no solution exists.
 enum Found {
@@ -18,16 +18,17 @@ enum Found {
     Stuck,
 }
 
-// What the whole call found.
+// What the whole call found: a solution, that there is none, or input that is not taken.
 pub enum Answer {
     Solved,
     NoSolution,
     Malformed,
 }
 
-// The least solution, in the first values; the ground's is 0.
+// The least solution, in the first values; the ground's is 0. NoSolution is an answer and no refusal: the first values are
+// then 0. Malformed is the refusal, and leaves every value as it was.
 pub fn least(arcs: &[u32], count: usize, nodes: usize, values: &mut [u32]) -> Answer
-    ensures { λ r. ⌜ Means (net (now (arcs .entry)) count) nodes (now (values .entry)) (now (values .exit)) r ⌝ }
+    ensures { λ r. ⌜ Means (net (now (arcs .entry)) count) nodes (now (values .entry)) (now (values .exit)) (finding r) ⌝ }
 {
     if nodes > values.len() {
         return Answer::Malformed;

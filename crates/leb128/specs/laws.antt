@@ -1,6 +1,7 @@
 pub mod Cases
 pub mod DecodeEncode
 pub mod DecodeFront
+pub mod NumberSize
 pub mod ItemCases
 pub mod StepCases
 pub mod EachNumber

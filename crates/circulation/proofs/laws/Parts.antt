@@ -3,9 +3,8 @@ use Rattle.network.specs.Net.{at, Net}
 use Rattle.circulation.specs.laws.Columns.{column-length, column-at}
 use Rattle.circulation.specs.Nodes.{column, potentials, size, node-stride}
 use Rattle.circulation.specs.Input.{Valid}
-use Rattle.circulation.specs.Solutions.{Solution, Cleared, Means}
+use Rattle.circulation.specs.Solutions.{Finding, Solution, Cleared, Means}
 use Rattle.circulation.specs.inside.Finish.{Zeroed}
-use Rattle.circulation.specs.declared.Answer.the-variants.{Solved}
 use mathlib.Core.Path.{_≡_, sym, ap, _∙_, subst}
 use mathlib.Core.List.{List, _++_}
 use Prim.Native.Nat.{ℕ, _+_, _-_, _*_, _/_, _≤_, _<_}
@@ -91,7 +90,7 @@ module _ (nodes₀ : List ℕ) (end : ℕ) (is-end : end ≡ node-stride * size 
     -- the answer, from what the front holds
     pub solved-back : {N : Net} (x₀ x chains₀ chains : List ℕ) → Valid N (size nodes₀) (potentials nodes₀) → length x ≡ length x₀ → length chains ≡ length chains₀
         → Solution N (size (take (end - 0) nodes₀)) (at x) (at (potentials w)) → Zeroed node-stride w → ((i : ℕ) → at chains i ≡ 0)
-        → Means N x₀ nodes₀ chains₀ x (w ++ postOf 0 (end - 0) nodes₀) chains Solved
+        → Means N x₀ nodes₀ chains₀ x (w ++ postOf 0 (end - 0) nodes₀) chains Finding.solved
     solved-back {N} x₀ x chains₀ chains v x-same chains-same s z zeros =
         rw (post-is 0 end nodes₀ (omega arith)) (
           v,

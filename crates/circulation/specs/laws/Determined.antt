@@ -1,15 +1,14 @@
 -- The contract fixes the answer and every number that is lent but the flows: two ends of the same input have the same
--- answer, and nodes and chains are equal.
+-- finding, and nodes and chains are equal.
 use Rattle.network.specs.Net.{at, Net, meant}
 use Rattle.network.specs.laws.Indexed.{upto-in}
 use Rattle.network.specs.laws.IntegerParts.{up, down}
 use Rattle.network.specs.laws.PackedLegal.{less-parts}
 use Rattle.network.specs.laws.Unique.{leftmost-unique}
 use Rattle.circulation.specs.Nodes.{potentials, size, node-stride, potential-zero}
-use Rattle.circulation.specs.Solutions.{potentials-of, Solution, Cleared, Means}
+use Rattle.circulation.specs.Solutions.{potentials-of, Solution, Cleared, Finding, Means}
+use Rattle.circulation.specs.Solutions.Finding.{solved, malformed}
 use Rattle.circulation.specs.laws.Columns.{column-at}
-use Rattle.circulation.specs.declared.Answer.{Answer}
-use Rattle.circulation.specs.declared.Answer.the-variants.{Solved, Malformed}
 use mathlib.Core.Path.{_≡_, refl, sym, ap, _∙_}
 use mathlib.Core.List.{List}
 use Prim.Native.Nat.{ℕ, _+_, _-_, _*_, _/_, _%_, _<_}
@@ -32,12 +31,12 @@ potentials-same n p q e g h v l = elim (ℕ-discrete v (n - 1)) [
         ∙ (ap (λ (l : List ℤ). getD l v (pos 0)) e ∙ upto-in (pos 0) (n - 1) (λ v. pos (q v) -ℤ pos potential-zero) v inside)
 
 module _ (N : Net) (x₀ nodes₀ chains₀ x nodes chains y other hints : List ℕ) where
-  -- the answers are the same
-  pub one-answer : (r s : Answer) → Means N x₀ nodes₀ chains₀ x nodes chains r → Means N x₀ nodes₀ chains₀ y other hints s → r ≡ s
-  one-answer Solved Solved m k = refl
-  one-answer Solved Malformed m k = absurd (k .0 (m .0))
-  one-answer Malformed Solved m k = absurd (m .0 (k .0))
-  one-answer Malformed Malformed m k = refl
+  -- the findings are the same
+  pub one-finding : (r s : Finding) → Means N x₀ nodes₀ chains₀ x nodes chains r → Means N x₀ nodes₀ chains₀ y other hints s → r ≡ s
+  one-finding solved solved m k = refl
+  one-finding solved malformed m k = absurd (k .0 (m .0))
+  one-finding malformed solved m k = absurd (m .0 (k .0))
+  one-finding malformed malformed m k = refl
 
   -- the nodes of two solutions
   solved-nodes : Cleared nodes₀ nodes chains₀ chains → Cleared nodes₀ other chains₀ hints
@@ -65,12 +64,12 @@ module _ (N : Net) (x₀ nodes₀ chains₀ x nodes chains y other hints : List 
       each i (no past) = c .rest i (omega arith) ∙ sym (d .rest i (omega arith))
 
   -- nodes and chains are the same
-  pub one-end : (r s : Answer) → Means N x₀ nodes₀ chains₀ x nodes chains r → Means N x₀ nodes₀ chains₀ y other hints s
+  pub one-end : (r s : Finding) → Means N x₀ nodes₀ chains₀ x nodes chains r → Means N x₀ nodes₀ chains₀ y other hints s
       → (nodes ≡ other) × (chains ≡ hints)
-  one-end Solved Solved m k = (
+  one-end solved solved m k = (
     solved-nodes (m .2) (k .2) (m .3) (k .3),
     ext-getD 0 chains hints (m .2 .chains-size ∙ sym (k .2 .chains-size)) (λ i l. m .2 .chains-zero i ∙ sym (k .2 .chains-zero i)),
   )
-  one-end Solved Malformed m k = absurd (k .0 (m .0))
-  one-end Malformed Solved m k = absurd (m .0 (k .0))
-  one-end Malformed Malformed m k = (m .2 ∙ sym (k .2), m .3 ∙ sym (k .3))
+  one-end solved malformed m k = absurd (k .0 (m .0))
+  one-end malformed solved m k = absurd (m .0 (k .0))
+  one-end malformed malformed m k = (m .2 ∙ sym (k .2), m .3 ∙ sym (k .3))

@@ -3,7 +3,7 @@
 use Rattle.network.specs.Net.{at, Net, meant}
 use Rattle.difference.specs.Input.{WellFormed, Taken}
 use Rattle.difference.specs.inside.Constraints.{Least, None}
-use Rattle.difference.specs.Solutions.{Lowest, RestKept, Solves, Cleared, Means}
+use Rattle.difference.specs.Solutions.{Finding, Lowest, RestKept, Solves, Cleared, Means}
 use Rattle.difference.specs.inside.Steps.{Ran}
 use Rattle.difference.specs.laws.Meaning.{least-lowest, none-feasible}
 use mathlib.Core.Path.{_≡_, ap, _∙_, sym, subst}
@@ -14,7 +14,6 @@ use native.Mathlib.Omega.{arith}
 use borrow.Rule.Slice.PartMut.{postOf, post-is}
 use lib.ListN.{length, take, drop, length-take, length-drop, length-append, List·getD-append}
 use lib.Seq.{take-append-le, getD-append-add, getD-drop}
-use Rattle.difference.specs.declared.Answer.the-variants.{Solved, NoSolution}
 
 -- what is behind the part is kept
 rest-kept : (n : ℕ) (w v₀ : List ℕ) → length w ≡ n → n ≤ length v₀ → RestKept n v₀ (w ++ drop n v₀)
@@ -53,7 +52,7 @@ module _ {N : Net} {n : ℕ} {v₀ : List ℕ} (taken : Taken N n v₀) (w : Lis
   }
 
   -- the answer where the passes found a solution
-  pub solved-back : (r : Bool) → r ≡ true → Ran N (length (take (n - 0) v₀)) w r → Means N n v₀ (w ++ postOf 0 (n - 0) v₀) Solved
+  pub solved-back : (r : Bool) → r ≡ true → Ran N (length (take (n - 0) v₀)) w r → Means N n v₀ (w ++ postOf 0 (n - 0) v₀) Finding.solved
   solved-back r e m =
       let least : Least N n w = rw (e, part-size) at m in
       rw put-back (taken, rest-kept n w v₀ (size ∙ part-size) (taken .values-room), solves least)
@@ -64,7 +63,7 @@ module _ {N : Net} {n : ℕ} {v₀ : List ℕ} (taken : Taken N n v₀) (w : Lis
 
   -- the answer where they found none
   pub none-back : (r : Bool) → r ≡ false → Ran N (length (take (n - 0) v₀)) w r
-      → Means N n v₀ (w ++ postOf 0 (n - 0) v₀) NoSolution
+      → Means N n v₀ (w ++ postOf 0 (n - 0) v₀) Finding.none
   none-back r e m =
       let none : None N n × ((u : ℕ) → at w u ≡ 0) = rw (e, part-size) at m in
       rw put-back (taken, rest-kept n w v₀ (size ∙ part-size) (taken .values-room), cleared none, none-feasible (taken .wf) (none .0))

@@ -12,7 +12,7 @@ use lib.Dec.{lit<}
 use borrow.Author.Tests.{lt-ltb, le-ltb}
 use Rattle.leb128.specs.Limits.{number-bytes, number-limit}
 use Rattle.leb128.specs.Number.{encode}
-use Rattle.leb128.specs.Place.{placed, written}
+use Rattle.leb128.specs.Place.{Placing, placing, placed, written}
 use Rattle.leb128.specs.laws.Cases.{lt-or-le}
 use Rattle.leb128.specs.laws.DecodeEncode.{encode-last, encode-more}
 use Rattle.leb128.specs.declared.Placed.{Placed}
@@ -121,25 +121,25 @@ module _ {old : List ℕ} {at n : ℕ} {new : List ℕ} {rest next : ℕ} (state
 
 -- the answer and the slice of the contract
 abbrev pub WrittenAs : List ℕ → ℕ → ℕ → Placed → List ℕ → Type 0
-WrittenAs old at n answer new = (answer ≡ placed (length old) at n) × (new ≡ written (placed (length old) at n) old at n)
+WrittenAs old at n answer new = (placing answer ≡ placed (length old) at n) × (new ≡ written (placed (length old) at n) old at n)
 
 module _ (old : List ℕ) (at n : ℕ) where
   -- a number at the limit or above has no form
   pub no-form : number-limit ≤ n → WrittenAs old at n NoForm old
-  unfolding placed written
+  unfolding placing placed written
   no-form h = rw (le-ltb n number-limit h) (refl, refl)
 
   module _ (form : n < number-limit) where
     -- the slice ends within the number
     pub no-room : length old < at + length (encode number-bytes n) → WrittenAs old at n NoRoom old
-    unfolding placed written
+    unfolding placing placed written
     no-room h = rw (lt-ltb n number-limit form, lt-ltb (length old) (at + length (encode number-bytes n)) h) (refl, refl)
 
     -- the number is written
     pub next-place : (after : ℕ) (new : List ℕ) → at + length (encode number-bytes n) ≤ length old
         → (after ≡ at + length (encode number-bytes n)) × (new ≡ sets old at (encode number-bytes n))
         → WrittenAs old at n (Next after) new
-    unfolding placed written
+    unfolding placing placed written
     next-place after new h e =
         rw (lt-ltb n number-limit form, le-ltb (length old) (at + length (encode number-bytes n)) h)
-        (ap Next (e .0), e .1)
+        (ap Placing.next (e .0), e .1)

@@ -9,27 +9,38 @@ use lib.Seq.{sets, drop-cons, length-take-le}
 use borrow.Author.Tests.{lt-ltb, le-ltb}
 use Rattle.leb128.specs.Limits.{number-bytes, number-limit}
 use Rattle.leb128.specs.Number.{encode}
-use Rattle.leb128.specs.Place.{placed, written}
+use Rattle.leb128.specs.Place.{Placing, placing, placed, written}
 use Rattle.leb128.specs.declared.Placed.{Placed}
-use Rattle.leb128.specs.declared.Placed.the-variants.{Next}
+use Rattle.leb128.specs.declared.Placed.the-variants.{Next, NoForm, NoRoom}
 use Rattle.sheet.specs.Limits.{magic}
 use Rattle.sheet.specs.inside.Passes.{encode-all}
 use Rattle.sheet.proofs.laws.Written.{Written, written-length, written-all, written-end}
 
+-- the answer that stands for a next position
+next-answer : (answer : Placed) (k : ℕ) → placing answer ≡ Placing.next k → answer ≡ Next k
+unfolding placing
+next-answer (Next m) k e = let same : m ≡ k = cc in ap Next same
+next-answer NoForm k e = let z : _≡_ {A = ℕ} 0 1 = cc in absurd (omega arith)
+next-answer NoRoom k e = let z : _≡_ {A = ℕ} 0 1 = cc in absurd (omega arith)
+
 -- a number that has its form and its room is written
 module _ (old : List ℕ) (at n : ℕ) (form : n < number-limit) (room : at + length (encode number-bytes n) ≤ length old) where
   -- the number has its form and its room
-  pub placed-next : placed (length old) at n ≡ Next (at + length (encode number-bytes n))
+  placed-next : placed (length old) at n ≡ Placing.next (at + length (encode number-bytes n))
   unfolding placed
   placed-next = rw (lt-ltb n number-limit form, le-ltb (length old) (at + length (encode number-bytes n)) room)
 
+  -- the number writer's answer
+  pub put-next-answer : {answer : Placed} → placing answer ≡ placed (length old) at n → answer ≡ Next (at + length (encode number-bytes n))
+  put-next-answer {answer} e = next-answer answer (at + length (encode number-bytes n)) (e ∙ placed-next)
+
   -- the number writer's answer and slice
   pub put-done : {answer : Placed} {next : ℕ} {new : List ℕ} → answer ≡ Next next
-      → (answer ≡ placed (length old) at n) × (new ≡ written (placed (length old) at n) old at n)
+      → (placing answer ≡ placed (length old) at n) × (new ≡ written (placed (length old) at n) old at n)
       → (next ≡ at + length (encode number-bytes n)) × (new ≡ sets old at (encode number-bytes n))
   unfolding written
   put-done {answer} {next} e w =
-      let f : Next next ≡ Next (at + length (encode number-bytes n)) = sym e ∙ (w .0 ∙ placed-next) in
+      let f : Next next ≡ Next (at + length (encode number-bytes n)) = sym e ∙ put-next-answer (w .0) in
       let is-next : next ≡ at + length (encode number-bytes n) = cc in
       (is-next, rw placed-next at (w .1))
 

@@ -1,6 +1,8 @@
 -- `leb128::writer::write_number` meets its contract: each return is a case of `placed`.
 use native.Mathlib.Omega.{arith}
 use Rattle.leb128.proofs.laws.Writing.{no-form, no-room, next-place}
+use Rattle.leb128.specs.laws.NumberSize.{number-size-is}
+use mathlib.Core.Path.{_∙_}
 use denote.Ref.{now}
 use borrow.Author.Needs.{needs}
 use Rattle.leb128.proofs.writer.write_number.Statement.{statement}
@@ -18,7 +20,7 @@ returns-2 : tie.Need-returns-2
 returns-2 c =
     let start = c .before .before .before .before in
     no-room (now (start .args .bytes)) (start .args .at) (start .args .n) (omega arith)
-    (omega (arith, c .before .number-size .ensures))
+    (omega (arith, c .before .number-size .ensures ∙ number-size-is (start .args .n)))
 
 sub-if3 : tie.Need-sub-if3
 sub-if3 c = search needs
@@ -27,10 +29,13 @@ returns-3 : tie.Need-returns-3
 returns-3 c =
     let start = c .before .before .before .before .before in
     no-room (now (start .args .bytes)) (start .args .at) (start .args .n) (omega arith)
-    (omega (arith, c .before .before .number-size .ensures))
+    (omega (arith, c .before .before .number-size .ensures ∙ number-size-is (start .args .n)))
 
 store-requires : tie.Need-store-requires
-store-requires c κs = search needs
+store-requires c κs =
+    let start = c .before .before .before .before .before .before in
+    let number-size = c .before .before .before .number-size in
+    (omega arith, omega (arith, number-size .ensures ∙ number-size-is (start .args .n)))
 
 same-length : tie.Need-same-length
 same-length c = search needs
@@ -40,7 +45,7 @@ returns-4 c =
     let start = c .before .before .before .before .before .before .before .before .before in
     let number-size = c .before .before .before .before .before .before .number-size in
     next-place (now (start .args .bytes)) (start .args .at) (start .args .n) (omega arith) _ _
-    (omega (arith, number-size .ensures)) (c .before .before .store .ensures)
+    (omega (arith, number-size .ensures ∙ number-size-is (start .args .n))) (c .before .before .store .ensures)
 
 pub write-number-spec : {M : Type 1} → statement M
 write-number-spec =

@@ -6,6 +6,7 @@ use mathlib.Core.Path.{sym, _∙_, ap}
 use Rattle.sheet.proofs.laws.Steps.{listed-item, listed-there}
 use Rattle.sheet.specs.inside.Cursor.{step-of}
 use Rattle.leb128.specs.laws.DecodeEncode.{encode-most}
+use Rattle.leb128.specs.laws.NumberSize.{number-size-is}
 use Rattle.leb128.specs.Source.{item}
 use Rattle.leb128.specs.Limits.{number-bytes}
 use borrow.Author.Needs.{needs}
@@ -33,7 +34,7 @@ add-t10 c =
       arith,
       start .pre,
       start .good,
-      c .number-size .ensures,
+      c .number-size .ensures ∙ number-size-is (found2 .given .0 .0),
       encode-most number-bytes (found2 .given .0 .0),
       listed-there (now (start .args .numbers)) (start .args .at)
           (sym (ap item (found2 .given .1)) ∙ list-number .ensures),
@@ -51,7 +52,7 @@ returns-2 : tie.Need-returns-2
 returns-2 c =
     let start = c .before .before .before .before .before .before in
     let list-number = c .before .before .before .before .list-number in
-    rw (c .number-size .ensures)
+    rw (c .number-size .ensures ∙ number-size-is (c .before .before .found2 .given .0 .0))
     (sym
     (ap (step-of (record { encoded = false; at = start .args .at; count = start .args .count }))
     (listed-item (now (start .args .numbers)) (start .args .at) (list-number .ensures)

@@ -1,8 +1,7 @@
 -- `sheet::writer::put` meets its contract: with form and room the number writer's answer is the next position.
-use Rattle.sheet.proofs.laws.Putting.{placed-next, put-done}
+use Rattle.sheet.proofs.laws.Putting.{put-next-answer, put-done}
 use native.Mathlib.Omega.{arith}
 use denote.Ref.{now}
-use mathlib.Core.Path.{_∙_}
 use mathlib.Core.Logic.{⊎-elim}
 use borrow.Author.Needs.{needs}
 use Rattle.sheet.proofs.writer.put.Statement.{statement}
@@ -23,8 +22,8 @@ returns c =
     absurd
     (⊎-elim (λ e. omega arith) (λ e. omega arith)
     (rw
-    (c .before .before .before .write-number .ensures .0
-    ∙ placed-next (now (start .args .bytes)) (start .args .at) (start .args .n) (start .pre .0) (start .pre .1))
+    (put-next-answer (now (start .args .bytes)) (start .args .at) (start .args .n) (start .pre .0) (start .pre .1)
+    (c .before .before .before .write-number .ensures .0))
     at (c .match .keys2)))
 
 same-length-2 : tie.Need-same-length-2
