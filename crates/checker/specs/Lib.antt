@@ -1,3 +1,4 @@
 pub mod Verdict
+pub mod Shown
 pub mod inside
 pub mod laws

@@ -17,6 +17,7 @@ ghost use Rattle.leb128.specs.Refusals.{«slice-short»};
 ghost use Rattle.sheet.specs.Limits.{magic};
 ghost use Rattle.sheet.specs.Grammar.{sheet};
 ghost use Rattle.checker.specs.Verdict.{judgement, decided, «check-answer»};
+ghost use Rattle.checker.specs.Shown.{ShownLeast};
 ghost use Rattle.arcs.specs.laws.Held.{Holds};
 ghost use Rattle.checker.specs.inside.Table.{«table-decision»};
 
@@ -28,9 +29,10 @@ pub enum Verdict {
 }
 
 // Whether places are a drawing of a sheet and the list is a certificate that no drawing has a smaller total; excess elements
-// are not looked at.
+// are not looked at. Yes shows both, whoever made sheet, places and list.
 pub fn check(bytes: &[u8], places: &[u16], list: &[i32]) -> Verdict
-    ensures { λ r. ⌜ judgement r ≡ check-answer (reading magic sheet (now (bytes .entry))) (now (places .entry)) (now (list .entry)) ⌝ }
+    ensures answer { λ r. ⌜ judgement r ≡ check-answer (reading magic sheet (now (bytes .entry))) (now (places .entry)) (now (list .entry)) ⌝ }
+    ensures least { λ r. ⌜ (r ≡ Verdict.Yes → ShownLeast (reading magic sheet (now (bytes .entry))) (now (places .entry))) ⌝ }
 {
     let mut arcs = [0u32; MAX_ELEMENTS];
     match arcs::load(bytes, &mut arcs) {

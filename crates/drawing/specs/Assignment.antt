@@ -3,7 +3,7 @@
 use mathlib.Core.Path.{_≡_}
 use mathlib.Core.List.{List, [], _∷_}
 use mathlib.Core.Bool.{Bool, true, _&&_, cond}
-use Prim.Native.Nat.{ℕ, zero, suc}
+use Prim.Native.Nat.{ℕ, zero, suc, _≤_}
 use lib.Dec.{T}
 use lib.ListN.{length}
 use lib.IntN.{ℤ, pos, _+ℤ_, _-ℤ_, natAbs}
@@ -69,3 +69,8 @@ edge-lengthZ x e = natAbs (potential x (e .lower) -ℤ potential x (e .upper))
 -- the total (horizontal) length
 unfoldable pub total-lengthZ : Sheet → List ℤ → ℕ
 total-lengthZ S x = sumℕ (edge-lengthZ x) (S .edges)
+
+-- every assignment has at least this one's total length
+pub record LeastAssignment (S : Sheet) (x : List ℤ) : Type 0 where
+  pub assignment : Assignment S x
+  pub least : (z : List ℤ) → Assignment S z → total-lengthZ S x ≤ total-lengthZ S z

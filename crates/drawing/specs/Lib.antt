@@ -1,7 +1,10 @@
 pub mod Sheet
+pub mod Proper
 pub mod Drawing
 pub mod Certificate
 pub mod Judged
 pub mod Arcs
 pub mod Assignment
+pub mod Rows
+pub mod Table
 pub mod laws

@@ -1,4 +1,5 @@
 pub mod Refusals
 pub mod Draws
+pub mod Answers
 pub mod inside
 pub mod laws

@@ -1,5 +1,6 @@
 -- The refusals that drawing adds to reading, by document 01's numbers.
 use Prim.Native.Nat.{ℕ}
+use Rattle.difference.specs.Solutions.{Finding}
 
 -- no drawing exists
 abbrev pub none-exists : ℕ
@@ -12,3 +13,10 @@ total-passes = 9
 -- the limit of a total
 abbrev pub total-limit : ℕ
 total-limit = 16777215
+
+-- the refusal that a finding about a sheet's hard constraints gives, 0 where it gives none: no feasible potentials, no
+-- drawing. (A sheet's arcs are never malformed.)
+unfoldable pub finding-refusal : Finding → ℕ
+finding-refusal Finding.solved = 0
+finding-refusal Finding.none = none-exists
+finding-refusal Finding.malformed = none-exists

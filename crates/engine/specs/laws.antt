@@ -1,3 +1,5 @@
 pub mod Determined
 pub mod Accepted
-pub mod Rows
+pub mod Refusals
+pub mod Table
+pub mod Assigned

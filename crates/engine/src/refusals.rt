@@ -1,8 +1,11 @@
 // Refusals of a good sheet.
 use crate::Answer;
+use difference::Answer as Finding;
 use leb128::Refusal;
 ghost use mathlib.Core.Path.{_≡_};
 ghost use Rattle.leb128.specs.Source.{refusal};
+ghost use Rattle.difference.specs.Solutions.{finding};
+ghost use Rattle.engine.specs.Refusals.{«finding-refusal»};
 
 // No drawing exists.
 pub const NONE_EXISTS: u8 = 8;
@@ -15,4 +18,15 @@ pub fn refused(number: u8) -> Answer
         number: number,
         offset: 0,
     })
+}
+
+// The refusal's number that a finding about a sheet's hard constraints gives, 0 where it gives none.
+pub fn finding_refusal(found: Finding) -> u8
+    ensures { λ r. ⌜ r ≡ finding-refusal (finding found) ⌝ }
+{
+    match found {
+        Finding::Solved => 0,
+        Finding::NoSolution => NONE_EXISTS,
+        Finding::Malformed => NONE_EXISTS,
+    }
 }

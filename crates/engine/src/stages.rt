@@ -3,7 +3,7 @@
 use crate::Answer;
 use crate::limits::MAX_GROUNDED;
 use crate::limits::MAX_HINTS;
-use crate::refusals::NONE_EXISTS;
+use crate::refusals::finding_refusal;
 use crate::refusals::refused;
 use crate::results::put_list;
 use crate::results::put_places;
@@ -17,7 +17,7 @@ ghost use lib.ListN.{length};
 ghost use Rattle.circulation.specs.Nodes.{«node-stride»};
 ghost use Rattle.arcs.specs.laws.Held.{Holds};
 ghost use Rattle.engine.specs.Draws.{result};
-ghost use Rattle.engine.specs.inside.Stages.{DrawsHeld, «potentials-to», found, Started, Within, Settled, Written};
+ghost use Rattle.engine.specs.inside.Stages.{DrawsHeld, «potentials-to», Started, Within, Settled, Written};
 
 // Draws with room to work in: a flow for each arc, and six numbers for each node and ground.
 pub fn draw_within(
@@ -33,8 +33,9 @@ pub fn draw_within(
     ensures { λ r. ⌜ DrawsHeld (now (arcs .entry)) counts (now (places .entry)) (now (list .entry)) (now (places .exit)) (now (list .exit)) (result r) ⌝ }
 {
     let mut hints = [0u32; MAX_HINTS];
-    if !start(arcs, counts, nodes) {
-        return refused(NONE_EXISTS);
+    let number = start(arcs, counts, nodes);
+    if number != 0 {
+        return refused(number);
     }
     let answer = circulation::solve(arcs, flows, nodes, &mut hints);
     Answer::Drawn(finish(arcs, counts, flows, nodes, places, list))
@@ -52,19 +53,8 @@ fn set_potentials(values: &[u32], count: usize, nodes: &mut [u32])
     }
 }
 
-// Whether a solution was found.
-fn found(answer: difference::Answer) -> bool
-    ensures { λ r. ⌜ r ≡ found answer ⌝ }
-{
-    match answer {
-        difference::Answer::Solved => true,
-        difference::Answer::NoSolution => false,
-        difference::Answer::Malformed => false,
-    }
-}
-
-// Feasible potentials, in the nodes; whether there are any.
-fn start(arcs: &[u32], counts: Counts, nodes: &mut [u32]) -> bool
+// Feasible potentials, in the nodes; the refusal's number where there are none, else 0.
+fn start(arcs: &[u32], counts: Counts, nodes: &mut [u32]) -> u8
     requires { ⌜ Holds (now arcs) counts ⌝ }
     requires { ⌜ length (now nodes) ≡ node-stride * (counts .nodes + 1) ⌝ }
     ensures { λ r. ⌜ Started (now (arcs .entry)) (counts .arcs) (counts .nodes + 1) (now (nodes .exit)) r ⌝ }
@@ -73,7 +63,7 @@ fn start(arcs: &[u32], counts: Counts, nodes: &mut [u32]) -> bool
     let count = counts.nodes + 1;
     let answer = difference::least(arcs, counts.arcs, count, &mut values);
     set_potentials(&values, count, nodes);
-    found(answer)
+    finding_refusal(answer)
 }
 
 // Writes places and list; the total.

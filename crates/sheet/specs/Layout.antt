@@ -1,7 +1,9 @@
 -- Where the numbers of a sheet stand in its list: document 01, "The sheet", in the order of its table.
-use Prim.Native.Nat.{ℕ, zero, suc, _+_, _*_, _-_}
+use Prim.Native.Nat.{ℕ, zero, suc, _+_, _*_, _-_, _≤_}
+use mathlib.Core.Path.{_≡_}
 use mathlib.Core.List.{List}
-use lib.ListN.{getD, drop}
+use lib.ListN.{length, getD, drop}
+use Rattle.sheet.specs.Limits.{max-width, max-layers, max-nodes, max-edges}
 
 -- the width (strip width W)
 abbrev pub width-at : ℕ
@@ -92,3 +94,11 @@ edge-part numbers = behind-layers (getD numbers layers-at 0) (drop first-layer-a
 -- the edges of a sheet
 abbrev pub edge-count : List ℕ → ℕ
 edge-count numbers = getD (edge-part numbers) edge-count-at 0
+
+-- what the layout says of a good sheet's numbers
+pub record LaidOut (numbers : List ℕ) : Type 0 where
+  pub width : getD numbers width-at 0 ≤ max-width
+  pub layer-count : (1 ≤ getD numbers layers-at 0) × (getD numbers layers-at 0 ≤ max-layers)
+  pub nodes : node-count numbers ≤ max-nodes
+  pub edges : edge-count numbers ≤ max-edges
+  pub size : length (edge-part numbers) ≡ edges-at + edge-stride * edge-count numbers

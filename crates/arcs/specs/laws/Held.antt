@@ -8,7 +8,7 @@ use lib.ListN.{length, getD, take, drop, length-append, length-map}
 use lib.Seq.{take-at}
 use Rattle.leb128.specs.Format.{reading}
 use Rattle.leb128.specs.Format.Result.{elements}
-use Rattle.leb128.specs.laws.AcceptedNumbers.{Accepts}
+use Rattle.leb128.specs.Grammar.{Accepts}
 use Rattle.sheet.specs.Grammar.{sheet}
 use Rattle.sheet.specs.Layout.{node-count}
 use Rattle.sheet.specs.Limits.{magic, max-nodes}
@@ -20,7 +20,8 @@ use Rattle.drawing.specs.Sheet.{Sheet, sheet-of}
 use Rattle.drawing.specs.Certificate.{certificate-size}
 use Rattle.drawing.specs.Arcs.{edge-arc, layer-arcs, network}
 use Rattle.drawing.specs.laws.GoodNumbers.{accepts-good}
-use Rattle.drawing.specs.laws.Proper.{Proper, accepts-proper}
+use Rattle.drawing.specs.laws.Proper.{accepts-proper}
+use Rattle.drawing.specs.Proper.{Proper}
 use Rattle.drawing.specs.laws.ArcCount.{arcs-count}
 use Rattle.drawing.specs.laws.ArcLimits.{network-storable}
 use Rattle.arcs.specs.declared.Counts.{Counts}

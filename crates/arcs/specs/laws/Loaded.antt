@@ -9,7 +9,7 @@ use lib.ListN.{length, drop}
 use Rattle.leb128.specs.Format.{Result, reading}
 use Rattle.leb128.specs.Format.Result.{elements}
 use Rattle.leb128.specs.laws.Cases.{lt-or-le}
-use Rattle.leb128.specs.laws.AcceptedNumbers.{Accepts}
+use Rattle.leb128.specs.Grammar.{Accepts}
 use Rattle.leb128.specs.declared.Refusal.{Refusal}
 use Rattle.sheet.specs.Limits.{magic, max-nodes}
 use Rattle.sheet.specs.Grammar.{sheet}
@@ -18,7 +18,8 @@ use Rattle.network.specs.Packed.{packs}
 use Rattle.drawing.specs.Sheet.{sheet-of}
 use Rattle.drawing.specs.Arcs.{network}
 use Rattle.drawing.specs.laws.GoodNumbers.{accepts-good}
-use Rattle.drawing.specs.laws.Proper.{Proper, accepts-proper}
+use Rattle.drawing.specs.laws.Proper.{accepts-proper}
+use Rattle.drawing.specs.Proper.{Proper}
 use Rattle.drawing.specs.laws.ArcCount.{arcs-count}
 use Rattle.arcs.specs.Limits.{max-elements}
 use Rattle.arcs.specs.Loading.{Loading, loading, arcs-size, load-answer, load-slice}

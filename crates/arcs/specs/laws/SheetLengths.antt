@@ -11,7 +11,7 @@ use Rattle.network.specs.laws.PackedBack.{packs-length}
 use Rattle.drawing.specs.Sheet.{Edge, Sheet}
 use Rattle.drawing.specs.Drawing.{coordinate, edge-length, total-length, Drawing}
 use Rattle.drawing.specs.Arcs.{edge-arc-between, edge-arc}
-use Rattle.drawing.specs.laws.Proper.{Proper}
+use Rattle.drawing.specs.Proper.{Proper}
 use Rattle.drawing.specs.laws.Unique.{total-small}
 use Rattle.arcs.specs.Words.{u32-most}
 use Rattle.arcs.specs.Lengths.{distance, lengths, lengths-of}

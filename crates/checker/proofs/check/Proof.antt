@@ -4,6 +4,7 @@ use native.Mathlib.Omega.{arith}
 use borrow.Author.Needs.{needs}
 use Rattle.arcs.specs.laws.Loaded.{loaded-sheet, reader-refused}
 use Rattle.arcs.specs.laws.Held.{loaded-holds}
+use Rattle.checker.specs.laws.Accepted.{verdict-least}
 use Rattle.checker.proofs.laws.Answers.{loaded-answer, refused-answer}
 use Rattle.checker.proofs.check.Statement.{statement}
 use Rattle.checker.proofs.check.Tie as tie
@@ -34,9 +35,11 @@ returns : tie.Need-returns
 returns c =
     let start = c .before .before .before .before .before .before .before .before in
     let load = c .before .before .before .before .load in
+    let answer =
     refused-answer (start .args .bytes .now)
     (reader-refused (start .args .bytes .now) _ (omega arith) (c .before .r .given .1) (load .ensures .0))
-    (start .args .places .now) (start .args .list .now)
+    (start .args .places .now) (start .args .list .now) in
+    (answer, verdict-least (start .args .bytes .now) (start .args .places .now) (start .args .list .now) answer)
 
 returns-2 : tie.Need-returns-2
 returns-2 c =
@@ -45,7 +48,8 @@ returns-2 c =
     let l =
     loaded-sheet (start .args .bytes .now) _ (c .before .before .before .counts .given .1) (load .ensures .0)
     (load .ensures .1) in
-    c .check-loaded .ensures ∙ loaded-answer l (start .args .places .now) (start .args .list .now)
+    let answer = c .check-loaded .ensures ∙ loaded-answer l (start .args .places .now) (start .args .list .now) in
+    (answer, verdict-least (start .args .bytes .now) (start .args .places .now) (start .args .list .now) answer)
 
 pub check-spec : {M : Type 1} → statement M
 check-spec =

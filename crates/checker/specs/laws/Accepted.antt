@@ -1,6 +1,6 @@
 -- Yes shows that the first places are a drawing of the sheet, and that no drawing has a smaller total.
 use Prim.Native.Nat.{ℕ}
-use mathlib.Core.Path.{_≡_, refl}
+use mathlib.Core.Path.{_≡_, refl, sym, _∙_, ap}
 use mathlib.Core.Bool.{Bool, true, false, cond}
 use mathlib.Core.List.{List}
 use native.Mathlib.Omega.{arith}
@@ -19,7 +19,10 @@ use Rattle.drawing.specs.Drawing.{LeastDrawing}
 use Rattle.drawing.specs.Certificate.{certificate-size}
 use Rattle.drawing.specs.Judged.{judged}
 use Rattle.drawing.specs.laws.Judged.{judged-least}
-use Rattle.checker.specs.Verdict.{Judgement, said, decided, judge-numbers, check-answer}
+use Rattle.checker.specs.Shown.{ShownLeast}
+use Rattle.checker.specs.Verdict.{Judgement, judgement, said, decided, judge-numbers, check-answer}
+use Rattle.checker.specs.declared.Verdict.{Verdict}
+use Rattle.checker.specs.declared.Verdict.the-variants.{Yes}
 
 -- yes is said where the decision is yes
 said-yes : (b : Bool) → said b ≡ Judgement.accepted → T b
@@ -52,12 +55,6 @@ numbers-least numbers places list e =
     judged-least numbers (take (sheet-of numbers .nodes) places) (take (certificate-size (sheet-of numbers)) list)
     (decided-yes (sheet-of numbers .nodes) (certificate-size (sheet-of numbers)) (judged (sheet-of numbers)) places list e)
 
--- the bytes are those of a good sheet, and the first places are a least drawing of it
-pub record ShownLeast (read : Result) (places : List ℕ) : Type 0 where
-  pub numbers : List ℕ
-  pub reads : read ≡ elements numbers
-  pub least : LeastDrawing (sheet-of numbers) (take (sheet-of numbers .nodes) places)
-
 -- yes, by what reading gives
 result-least : (read : Result) (places : List ℕ) (list : List ℤ) → check-answer read places list ≡ Judgement.accepted
     → ShownLeast read places
@@ -69,3 +66,9 @@ result-least (Result.refused r) places list e = let z : _≡_ {A = ℕ} 0 1 = cc
 pub accepted-least : (bytes places : List ℕ) (list : List ℤ) → check-answer (reading magic sheet bytes) places list ≡ Judgement.accepted
     → ShownLeast (reading magic sheet bytes) places
 accepted-least bytes = result-least (reading magic sheet bytes)
+
+-- the same of the code's answer
+pub verdict-least : (bytes places : List ℕ) (list : List ℤ) {v : Verdict} → judgement v ≡ check-answer (reading magic sheet bytes) places list
+    → v ≡ Yes → ShownLeast (reading magic sheet bytes) places
+unfolding judgement
+verdict-least bytes places list e is = accepted-least bytes places list (sym e ∙ ap judgement is)

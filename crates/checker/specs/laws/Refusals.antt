@@ -1,6 +1,6 @@
 -- The checker refuses with 1 to 7 only, never with 8 or 9, and at an offset of at most 5,121: its refusals are those of reading
 -- and of slices that are too short.
-use Prim.Native.Nat.{ℕ, _≤_}
+use Prim.Native.Nat.{ℕ}
 use mathlib.Core.Path.{_≡_, refl, sym}
 use mathlib.Core.Bool.{Bool, true, false, cond}
 use mathlib.Core.List.{List}
@@ -13,9 +13,10 @@ use Rattle.leb128.specs.Source.{refusal}
 use Rattle.leb128.specs.Format.{Result, reading}
 use Rattle.leb128.specs.Format.Result.{elements}
 use Rattle.leb128.specs.declared.Refusal.{Refusal}
-use Rattle.sheet.specs.Limits.{magic, max-bytes}
+use Rattle.sheet.specs.Limits.{magic}
 use Rattle.sheet.specs.Grammar.{sheet}
-use Rattle.sheet.specs.laws.Sheets.{FormatRefusal, reader-refusals, reader-offsets}
+use Rattle.sheet.specs.laws.Sheets.{reader-refusals, reader-offsets}
+use Rattle.sheet.specs.Refusals.{SheetRefusal}
 use Rattle.drawing.specs.Sheet.{sheet-of}
 use Rattle.drawing.specs.Certificate.{certificate-size}
 use Rattle.drawing.specs.Judged.{judged}
@@ -27,30 +28,25 @@ unfolding said
 said-not true r e = let z : _≡_ {A = ℕ} 0 1 = cc in omega arith
 said-not false r e = let z : _≡_ {A = ℕ} 0 1 = cc in omega arith
 
--- what a refusal of the checker is
-pub record Given (r : Refusal) : Type 0 where
-  pub number-in : FormatRefusal (r .number)
-  pub offset-in : r .offset ≤ max-bytes
-
 -- a slice that is too short
-slice-given : Given (refusal slice-short 0)
+slice-given : SheetRefusal (refusal slice-short 0)
 slice-given = record { number-in = (omega arith, omega arith); offset-in = omega arith }
 
 -- two tests of length, then a decision
 tests-refused : (few short decision : Bool) (r : Refusal)
     → cond few (Judgement.refused (refusal slice-short 0)) (cond short (Judgement.refused (refusal slice-short 0)) (said decision)) ≡ Judgement.refused r
-    → Given r
+    → SheetRefusal r
 tests-refused true short decision r e = let is-r : r ≡ refusal slice-short 0 = cc in rw is-r slice-given
 tests-refused false true decision r e = let is-r : r ≡ refusal slice-short 0 = cc in rw is-r slice-given
 tests-refused false false decision r e = absurd (said-not decision r e)
 
 -- what the checker refuses
 pub check-refusals : (bytes places : List ℕ) (list : List ℤ) (r : Refusal) → check-answer (reading magic sheet bytes) places list ≡ Judgement.refused r
-    → Given r
+    → SheetRefusal r
 unfolding check-answer judge-numbers decided
 check-refusals bytes places list r e = go (reading magic sheet bytes) refl e
   where
-    go : (read : Result) → reading magic sheet bytes ≡ read → check-answer read places list ≡ Judgement.refused r → Given r
+    go : (read : Result) → reading magic sheet bytes ≡ read → check-answer read places list ≡ Judgement.refused r → SheetRefusal r
     go (elements numbers) i e =
         tests-refused (ltb (length places) (sheet-of numbers .nodes)) (ltb (length list) (certificate-size (sheet-of numbers)))
         (judged (sheet-of numbers) (take (sheet-of numbers .nodes) places) (take (certificate-size (sheet-of numbers)) list)) r e

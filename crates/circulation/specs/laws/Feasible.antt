@@ -1,7 +1,6 @@
 -- Potentials are on no forbidden side of the packed arcs exactly where they are feasible for the network that the arcs are.
 use Rattle.network.specs.Net.{at, Net, arcs, tail, head, meant}
-use Rattle.network.specs.Network.{integers, legal}
-use Rattle.network.specs.Network.{Feasible as NetworkFeasible}
+use Rattle.network.specs.Network.{integers, legal, Feasible as NetworkFeasible}
 use Rattle.network.specs.Packed.{arc-at}
 use Rattle.network.specs.laws.Indexed.{all-upto, upto-all}
 use Rattle.network.specs.laws.PackedLegal.{Meets, legal-meets, meets-legal}

@@ -16,8 +16,7 @@ use Rattle.sheet.specs.Limits.{max-separation, max-kind}
 use Rattle.sheet.specs.Layout.{layers-at, first-layer-at, nodes-at, separations-at, next-layer}
 use Rattle.drawing.specs.Sheet.{Pair, Layer, Edge, Sheet, pairs-of, layers-of, first-nodes, sheet-of}
 use Rattle.drawing.specs.Arcs.{edge-arc-between, edge-arc, upper-bound, minimum-arc, maximum-arc, separation-arcs, layer-arcs, network}
-use Rattle.drawing.specs.laws.Good.{not-crossed}
-use Rattle.drawing.specs.laws.Proper.{proper-pair, proper-edge, Proper}
+use Rattle.drawing.specs.Proper.{not-crossed, proper-edge, proper-pair, Proper}
 use Rattle.drawing.specs.laws.SameDrawings.{length-pairs}
 
 -- a low limit of -1 or 0, or none

@@ -7,11 +7,7 @@ use lib.ListN.{length, getD, drop}
 use Rattle.sheet.specs.Limits.{max-width, max-layers, max-separation, max-edges, max-kind}
 use Rattle.sheet.specs.Layout.{width-at, layers-at, first-layer-at, nodes-at, separations-at, separation-stride, minimum-at, maximum-at, edge-count-at, edges-at, edge-stride, edge-layer-at, edge-upper-at, edge-lower-at, edge-kind-at, layer-size, next-layer, behind-layers}
 use Rattle.drawing.specs.Sheet.{node-at, first-nodes}
-
--- a maximum separation that is set is not below the minimum
-abbrev pub not-crossed : ℕ → ℕ → Bool
-not-crossed minimum zero = true
-not-crossed minimum (suc maximum) = leb minimum (suc maximum)
+use Rattle.drawing.specs.Proper.{not-crossed}
 
 -- a pair whose separations are the first of s
 pub record GoodPair (s : List ℕ) : Type 0 where

@@ -8,16 +8,16 @@ use native.Mathlib.Omega.{arith}
 use lib.Dec.{T, le→leb}
 use lib.ListN.{length, getD, drop}
 use lib.Seq.{getD-drop, drop-drop}
-use Rattle.leb128.specs.Grammar.{Grammar}
+use Rattle.leb128.specs.Grammar.{Grammar, Accepts}
 use Rattle.leb128.specs.laws.EachNumber.{within-limits}
-use Rattle.leb128.specs.laws.AcceptedNumbers.{Accepts}
 use Rattle.sheet.specs.Limits.{max-width, max-layers, max-layer-nodes, max-nodes, max-separation, max-edges, max-kind}
 use Rattle.sheet.specs.Layout.{layers-at, first-layer-at, nodes-at, edge-count-at, edge-stride, edge-layer-at, edge-upper-at, edge-lower-at, edge-kind-at, next-layer, behind-layers, nodes-of, node-count}
 use Rattle.sheet.specs.Grammar.{maximum-rule, separation, separations, layers, edge, edges, sheet}
 use Rattle.sheet.specs.laws.SheetNumbers.{maximum-within, maximum-apart}
 use Rattle.sheet.specs.laws.LaidOut.{opened, behind-layer}
 use Rattle.drawing.specs.Sheet.{first-nodes}
-use Rattle.drawing.specs.laws.Good.{not-crossed, GoodPairs, GoodLayers, GoodEdges, Good}
+use Rattle.drawing.specs.laws.Good.{GoodPairs, GoodLayers, GoodEdges, Good}
+use Rattle.drawing.specs.Proper.{not-crossed}
 
 -- a maximum that is accepted is not crossed
 apart : (minimum maximum : ℕ) → maximum-rule minimum maximum ≡ 0 → T (not-crossed minimum maximum)

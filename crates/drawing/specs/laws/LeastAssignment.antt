@@ -1,19 +1,14 @@
 -- Least total means the same for drawings and for source 004's assignments: each is one of the other, up to a shift,
 -- with the same total.
 use mathlib.Core.List.{List}
-use Prim.Native.Nat.{ℕ, _≤_}
+use Prim.Native.Nat.{ℕ}
 use lib.IntN.{ℤ}
 use Rattle.network.specs.Network.{integers}
 use Rattle.drawing.specs.Sheet.{Sheet}
-use Rattle.drawing.specs.laws.Proper.{Proper}
+use Rattle.drawing.specs.Proper.{Proper}
 use Rattle.drawing.specs.Drawing.{LeastDrawing}
-use Rattle.drawing.specs.Assignment.{Assignment, total-lengthZ}
+use Rattle.drawing.specs.Assignment.{LeastAssignment}
 use Rattle.drawing.specs.laws.Shift.{shifted, shifted-drawing, shifted-total, drawing-assignment, drawing-length}
-
--- every assignment has at least this one's total length
-pub record LeastAssignment (S : Sheet) (x : List ℤ) : Type 0 where
-  pub assignment : Assignment S x
-  pub least : (z : List ℤ) → Assignment S z → total-lengthZ S x ≤ total-lengthZ S z
 
 module _ (S : Sheet) (proper : Proper S) where
   -- a least drawing is a least assignment

@@ -8,32 +8,15 @@ use lib.Dec.{T, ltb, leb, lt→ltb, le→leb}
 use lib.ListN.{length, getD, drop}
 use Rattle.network.specs.Sums.{all}
 use Rattle.network.specs.laws.Tests.{and-both}
-use Rattle.leb128.specs.laws.AcceptedNumbers.{Accepts}
+use Rattle.leb128.specs.Grammar.{Accepts}
 use Rattle.sheet.specs.Limits.{max-width, max-nodes, max-separation, max-edges, max-kind}
 use Rattle.sheet.specs.Layout.{layers-at, first-layer-at, nodes-at, separations-at, separation-stride, minimum-at, maximum-at, edge-count-at, edges-at, edge-stride, next-layer, behind-layers, node-count}
 use Rattle.sheet.specs.Grammar.{sheet}
 use Rattle.sheet.specs.laws.Sheets.{good-layout}
 use Rattle.drawing.specs.Sheet.{Pair, Edge, Sheet, pairs-of, layers-of, first-nodes, edge-of, edges-of, sheet-of}
-use Rattle.drawing.specs.laws.Good.{not-crossed, GoodPair, GoodPairs, GoodLayers, GoodEdges}
+use Rattle.drawing.specs.laws.Good.{GoodPair, GoodPairs, GoodLayers, GoodEdges}
+use Rattle.drawing.specs.Proper.{not-crossed, proper-pair, proper-edge, Proper}
 use Rattle.drawing.specs.laws.GoodNumbers.{last-first-node, accepts-good}
-
--- the limits of a pair of n nodes
-abbrev pub proper-pair : ℕ → Pair → Bool
-proper-pair n x =
-    ltb (suc (x .left)) n
-    && ((leb 1 (x .minimum) && leb (x .minimum) max-separation) && (leb (x .maximum) max-separation && not-crossed (x .minimum) (x .maximum)))
-
--- the limits of an edge between n nodes
-abbrev pub proper-edge : ℕ → Edge → Bool
-proper-edge n e = (ltb (e .upper) n && ltb (e .lower) n) && leb (e .kind) max-kind
-
--- the limits of a sheet
-pub record Proper (S : Sheet) : Type 0 where
-  pub width : S .width ≤ max-width
-  pub nodes : S .nodes ≤ max-nodes
-  pub few : length (S .edges) ≤ max-edges
-  pub pairs : T (all (λ l. all (proper-pair (S .nodes)) (l .pairs)) (S .layers))
-  pub ends : T (all (proper-edge (S .nodes)) (S .edges))
 
 -- a good pair is proper
 pair-proper : (n v : ℕ) (s : List ℕ) → suc v < n → GoodPair s

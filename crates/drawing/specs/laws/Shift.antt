@@ -23,8 +23,7 @@ use Rattle.drawing.specs.Sheet.{Pair, Edge, Sheet}
 use Rattle.drawing.specs.Drawing.{coordinate, within-maximum, separated, aligned, edge-aligned, Drawing, edge-length, total-length}
 use Rattle.drawing.specs.laws.SameDrawings.{inside-at, at-inside}
 use Rattle.sheet.specs.Limits.{max-separation, max-kind}
-use Rattle.drawing.specs.laws.Good.{not-crossed}
-use Rattle.drawing.specs.laws.Proper.{proper-pair, proper-edge, Proper}
+use Rattle.drawing.specs.Proper.{not-crossed, proper-edge, proper-pair, Proper}
 
 -- the distances from the least coordinate
 abbrev pub shifted : List ℤ → List ℕ

@@ -9,7 +9,7 @@ use lib.Seq.{ext-getD}
 use Rattle.network.specs.Sums.{sumℕ}
 use Rattle.sheet.specs.Limits.{max-width, max-edges}
 use Rattle.drawing.specs.Sheet.{Edge, Sheet}
-use Rattle.drawing.specs.laws.Proper.{Proper}
+use Rattle.drawing.specs.Proper.{Proper}
 use Rattle.drawing.specs.Drawing.{Drawing, edge-length, total-length, LeftmostDrawing}
 use Rattle.drawing.specs.laws.SameDrawings.{inside-at}
 

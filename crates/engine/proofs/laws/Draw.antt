@@ -1,10 +1,8 @@
 -- The contract's cases: refusals of a good sheet, what the solver of flows leaves, and the refusals of reading.
-use Prim.Native.Nat.{ℕ, _+_, _*_, _/_, _≤_, _<_}
+use Prim.Native.Nat.{ℕ, zero, suc, _+_, _*_, _/_, _≤_, _<_}
 use mathlib.Core.Path.{_≡_, refl, sym, subst}
-use mathlib.Core.Bool.{Bool, true, false}
 use mathlib.Core.List.{List}
 use native.Mathlib.Omega.{arith}
-use lib.Dec.{T}
 use lib.IntN.{ℤ}
 use lib.ListN.{length}
 use Rattle.leb128.specs.Refusals.{slice-short}
@@ -20,7 +18,7 @@ use Rattle.drawing.specs.laws.SameDrawings.{drawing-feasible}
 use Rattle.difference.specs.Solutions.{NoneFeasible}
 use Rattle.circulation.specs.Nodes.{node-stride, potentials}
 use Rattle.circulation.specs.Input.{Valid}
-use Rattle.circulation.specs.Solutions.{Solution, Means}
+use Rattle.circulation.specs.Solutions.{Solution, finding, Means}
 use Rattle.circulation.specs.declared.Answer.the-variants.{Solved, Malformed}
 use Rattle.circulation.specs.declared.Answer as circulation
 use Rattle.arcs.specs.declared.Counts.{Counts}
@@ -72,28 +70,28 @@ pub record Solved-from (a : List ℕ) (c : Counts) (x₀ nodes₀ x nodes : List
 -- by its contract
 pub solved-from : {a : List ℕ} {c : Counts} (x₀ nodes₀ chains₀ x nodes chains : List ℕ) (r : circulation.Answer) → length x₀ ≡ c .arcs
     → length nodes₀ ≡ node-stride * (c .nodes + 1) → Valid (net a (c .arcs)) (c .nodes + 1) (potentials nodes₀)
-    → Means (net a (length x₀)) x₀ nodes₀ chains₀ x nodes chains r → Solved-from a c x₀ nodes₀ x nodes
+    → Means (net a (length x₀)) x₀ nodes₀ chains₀ x nodes chains (finding r) → Solved-from a c x₀ nodes₀ x nodes
 solved-from {a} {c} x₀ nodes₀ chains₀ x nodes chains r xs ns v g =
-    go r (subst (λ (m : ℕ). Means (net a m) x₀ nodes₀ chains₀ x nodes chains r) xs g)
+    go r (subst (λ (m : ℕ). Means (net a m) x₀ nodes₀ chains₀ x nodes chains (finding r)) xs g)
   where
     count : length nodes₀ / node-stride ≡ c .nodes + 1
     count = omega arith
 
-    go : (r : circulation.Answer) → Means (net a (c .arcs)) x₀ nodes₀ chains₀ x nodes chains r → Solved-from a c x₀ nodes₀ x nodes
+    go : (r : circulation.Answer) → Means (net a (c .arcs)) x₀ nodes₀ chains₀ x nodes chains (finding r) → Solved-from a c x₀ nodes₀ x nodes
     go Solved g = record { settled = subst (λ (n : ℕ). Solution (net a (c .arcs)) n (at x) (at (potentials nodes))) count (g .3); flows-size = g .1; nodes-size = g .2 .nodes-size }
     go Malformed g = absurd (g .0 (subst (λ (n : ℕ). Valid (net a (c .arcs)) n (potentials nodes₀)) (sym count) v))
 
--- where the start says no, nothing is feasible
-pub not-started : (a : List ℕ) (m n : ℕ) (nodes : List ℕ) (b : Bool) → Started a m n nodes b → b ≡ false
-    → NoneFeasible (meant (net a m) n)
-not-started a m n nodes true g e = absurd (subst T e tt)
-not-started a m n nodes false g e = g
+-- where the start gives a refusal's number, it is 8 and nothing is feasible
+pub not-started : (a : List ℕ) (m n : ℕ) (nodes : List ℕ) (k : ℕ) → Started a m n nodes k → (k ≡ 0 → ⊥)
+    → (k ≡ none-exists) × NoneFeasible (meant (net a m) n)
+not-started a m n nodes zero g e = absurd (e refl)
+not-started a m n nodes (suc k) g e = g
 
--- where it says yes, it is a start
-pub is-started : (a : List ℕ) (m n : ℕ) (nodes : List ℕ) (b : Bool) → Started a m n nodes b → b ≡ true
+-- where it gives none, it is a start
+pub is-started : (a : List ℕ) (m n : ℕ) (nodes : List ℕ) (k : ℕ) → Started a m n nodes k → k ≡ 0
     → Valid (net a m) n (potentials nodes)
-is-started a m n nodes true g e = g
-is-started a m n nodes false g e = absurd (subst T (sym e) tt)
+is-started a m n nodes zero g e = g
+is-started a m n nodes (suc k) g e = absurd (omega arith)
 
 -- the refusal of reading
 pub refused-drawn : (bytes p : List ℕ) (y : List ℤ) {r : Refusal} → reading magic sheet bytes ≡ Result.refused r

@@ -1,8 +1,7 @@
 -- The least solution of a sheet's hard constraints is a start for the solver of flows; where there is none the sheet has no
 -- drawing.
 use Prim.Native.Nat.{ℕ, _+_, _-_, _*_, _≤_, _<_}
-use mathlib.Core.Path.{_≡_, sym, _∙_, ap, subst₂}
-use mathlib.Core.Bool.{Bool}
+use mathlib.Core.Path.{_≡_, refl, sym, _∙_, ap, subst₂}
 use mathlib.Core.List.{List}
 use mathlib.Core.Logic.{⊎-elim}
 use native.Mathlib.Omega.{arith}
@@ -10,7 +9,7 @@ use lib.ListN.{length, take, length-take, List·getD-eq-default}
 use lib.Seq.{getD-take}
 use Rattle.leb128.specs.laws.Cases.{lt-or-le, eq-or-ne}
 use Rattle.network.specs.Net.{at, net}
-use Rattle.difference.specs.Solutions.{Solves, Means}
+use Rattle.difference.specs.Solutions.{Solves, finding, Means}
 use Rattle.difference.specs.declared.Answer.{Answer}
 use Rattle.difference.specs.declared.Answer.the-variants.{Solved, NoSolution, Malformed}
 use Rattle.circulation.specs.Nodes.{node-stride, potentials}
@@ -18,7 +17,8 @@ use Rattle.circulation.specs.Input.{Valid}
 use Rattle.circulation.specs.laws.Feasible.{feasible-stored}
 use Rattle.arcs.specs.declared.Counts.{Counts}
 use Rattle.arcs.specs.laws.Held.{Holds}
-use Rattle.engine.specs.inside.Stages.{potentials-to, found, Started}
+use Rattle.engine.specs.inside.Stages.{potentials-to, Started}
+use Rattle.engine.specs.Refusals.{finding-refusal}
 use Rattle.engine.proofs.laws.Fits.{nodes-few, difference-takes, circulation-takes}
 use Rattle.engine.proofs.laws.Rooted.{rooted}
 use Rattle.engine.proofs.laws.Potentials.{potential-is, potential-behind}
@@ -65,16 +65,16 @@ module _ {a : List ℕ} {c : Counts} (h : Holds a c) (values nodes : List ℕ) (
 
 -- what the solver of differences answers
 pub started : {a : List ℕ} {c : Counts} → Holds a c → (old values nodes : List ℕ) (r : Answer) → c .nodes + 1 ≤ length old → length values ≡ length old
-    → length nodes ≡ node-stride * (c .nodes + 1) → Means (net a (c .arcs)) (c .nodes + 1) old values r
-    → Started a (c .arcs) (c .nodes + 1) (potentials-to (c .nodes + 1) values nodes) (found r)
-unfolding found
+    → length nodes ≡ node-stride * (c .nodes + 1) → Means (net a (c .arcs)) (c .nodes + 1) old values (finding r)
+    → Started a (c .arcs) (c .nodes + 1) (potentials-to (c .nodes + 1) values nodes) (finding-refusal (finding r))
+unfolding finding-refusal
 started h old values nodes Solved enough same size g = valid-start h values nodes size (omega arith) (g .2)
-started h old values nodes NoSolution enough same size g = g .3
+started h old values nodes NoSolution enough same size g = (refl, g .3)
 started h old values nodes Malformed enough same size g = absurd (g .0 (record { wf = difference-takes h; values-room = enough }))
 
--- the same of the nodes and the word that the code has
-pub started-so : {a : List ℕ} {c : Counts} → Holds a c → (old values nodes nodes′ : List ℕ) (r : Answer) (b : Bool) → c .nodes + 1 ≤ length old
-    → length values ≡ length old → length nodes ≡ node-stride * (c .nodes + 1) → Means (net a (c .arcs)) (c .nodes + 1) old values r
-    → nodes′ ≡ potentials-to (c .nodes + 1) values nodes → b ≡ found r → Started a (c .arcs) (c .nodes + 1) nodes′ b
-started-so {a} {c} h old values nodes nodes′ r b enough same size g e f =
+-- the same of the nodes and the number that the code has
+pub started-so : {a : List ℕ} {c : Counts} → Holds a c → (old values nodes nodes′ : List ℕ) (r : Answer) (k : ℕ) → c .nodes + 1 ≤ length old
+    → length values ≡ length old → length nodes ≡ node-stride * (c .nodes + 1) → Means (net a (c .arcs)) (c .nodes + 1) old values (finding r)
+    → nodes′ ≡ potentials-to (c .nodes + 1) values nodes → k ≡ finding-refusal (finding r) → Started a (c .arcs) (c .nodes + 1) nodes′ k
+started-so {a} {c} h old values nodes nodes′ r k enough same size g e f =
     subst₂ (Started a (c .arcs) (c .nodes + 1)) (sym e) (sym f) (started h old values nodes r enough same size g)

@@ -1,11 +1,9 @@
 -- The checker says yes to what drawing leaves: each of its tests is one of the contract's facts.
 use Prim.Native.Nat.{ℕ, _≤_}
-use mathlib.Core.Path.{_≡_, refl, _∙_, ap}
-use mathlib.Core.Bool.{Bool, true, false}
+use mathlib.Core.Path.{_≡_, _∙_, ap}
+use mathlib.Core.Bool.{true}
 use mathlib.Core.List.{List}
 use native.Mathlib.Omega.{arith}
-use borrow.Author.Tests.{le-ltb}
-use lib.Dec.{T}
 use lib.IntN.{ℤ, pos}
 use lib.ListN.{length, take, length-take}
 use Rattle.leb128.specs.Format.{Result}
@@ -15,14 +13,10 @@ use Rattle.drawing.specs.Sheet.{sheet-of}
 use Rattle.drawing.specs.Certificate.{certificate-size}
 use Rattle.drawing.specs.Judged.{judged}
 use Rattle.drawing.specs.laws.Judged.{Accepted, accepted-judged}
-use Rattle.checker.specs.Verdict.{Judgement, said, decided, judge-numbers, check-answer}
+use Rattle.network.specs.laws.Tests.{is-true}
+use Rattle.checker.specs.Verdict.{Judgement, judge-numbers, check-answer}
+use Rattle.checker.specs.laws.Decided.{numbers-decided, said-yes-is}
 use Rattle.engine.specs.Draws.{Drawn, Returns, Draws}
-
--- yes is said where the decision is yes
-said-true : (b : Bool) → T b → said b ≡ Judgement.accepted
-unfolding said
-said-true true t = refl
-said-true false t = absurd t
 
 module _ (s p₀ : List ℕ) (y₀ : List ℤ) (p : List ℕ) (y : List ℤ) (total : ℕ) (g : Returns (sheet-of s) p₀ y₀ p y total) where
   -- the facts that the checker decides
@@ -39,10 +33,10 @@ module _ (s p₀ : List ℕ) (y₀ : List ℤ) (p : List ℕ) (y : List ℤ) (to
 
   -- yes on the sheet's numbers
   numbers-yes : judge-numbers s p y ≡ Judgement.accepted
-  unfolding judge-numbers decided
   numbers-yes =
-      rw (le-ltb (length p) (sheet-of s .nodes) places-enough, le-ltb (length y) (certificate-size (sheet-of s)) numbers-enough)
-      (said-true (judged (sheet-of s) (take (sheet-of s .nodes) p) (take (certificate-size (sheet-of s)) y)) (accepted-judged s (take (sheet-of s .nodes) p) (take (certificate-size (sheet-of s)) y) facts))
+      numbers-decided s p y true places-enough numbers-enough
+      (is-true (judged (sheet-of s) (take (sheet-of s .nodes) p) (take (certificate-size (sheet-of s)) y)) (accepted-judged s (take (sheet-of s .nodes) p) (take (certificate-size (sheet-of s)) y) facts))
+      ∙ said-yes-is
 
 -- a total is no refusal
 drawn-not : {total : ℕ} {r : Refusal} → Drawn.drawn total ≡ Drawn.refused r → ⊥

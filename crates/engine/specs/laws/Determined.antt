@@ -12,12 +12,8 @@ use Rattle.drawing.specs.Sheet.{Sheet, sheet-of}
 use Rattle.drawing.specs.Drawing.{total-length}
 use Rattle.drawing.specs.laws.Unique.{leftmost-unique}
 use Rattle.engine.specs.Draws.{Drawn, Refuses, Returns, DrawsSheet, Draws}
+use Rattle.engine.specs.Answers.{Same}
 use Rattle.engine.specs.Draws.Refuses.{few-places, few-numbers, none, passes}
-
--- the same answer and the same places
-pub record Same (p q : List ℕ) (a b : Drawn) : Type 0 where
-  pub answer : a ≡ b
-  pub places : p ≡ q
 
 module _ (S : Sheet) (places list : ℕ) where
   -- one reason of refusal excludes the others

@@ -4,7 +4,8 @@ use mathlib.Core.Path.{_≡_, refl}
 use mathlib.Core.List.{List, [], _∷_}
 use native.Mathlib.Omega.{arith}
 use lib.ListN.{length}
-use Rattle.leb128.specs.Grammar.{Form, Grammar, Rule}
+use Rattle.leb128.specs.Grammar.{Form, Grammar, Rule, Accepts}
+use Rattle.leb128.specs.Grammar.Accepts.{nil, one}
 use Rattle.leb128.specs.Grammar.Grammar.{done, number}
 use Rattle.leb128.specs.Source.{Item, Source}
 use Rattle.leb128.specs.Source.Item.{value}
@@ -14,13 +15,7 @@ use Rattle.leb128.specs.laws.StepCases.{checked-good, checked-value, led
 use Rattle.leb128.specs.laws.EachNumber.{Each}
 use Rattle.leb128.specs.laws.EachNumber.Each.{end, each}
 
--- the grammar takes these numbers, and ends with them
-pub data Accepts : Grammar → List ℕ → Type 0 where
-  nil : Accepts done []
-  one : {form : Form} {rule : Rule} {next : ℕ → Grammar} {n : ℕ} {ns : List ℕ} → rule n ≡ 0 → Accepts (next n) ns
-      → Accepts (number form rule next) (n ∷ ns)
-
--- so they stand in the source, from one position to another
+-- accepted numbers that stand in the source, from one position to another
 pub data Chain (source : Source) : Grammar → ℕ → List ℕ → ℕ → Type 0 where
   none : {at : ℕ} → Chain source done at [] at
   more : {form : Form} {rule : Rule} {next : ℕ → Grammar} {at after last n : ℕ} {ns : List ℕ} → rule n ≡ 0

@@ -10,7 +10,7 @@ use native.Mathlib.Nat.{pow-suc, one-le-pow, div-lt-iff-lt-mul}
 use lib.ListN.{length, getD, drop}
 use lib.Dec.{ltb, lit<}
 use borrow.Author.Tests.{lt-ltb, le-ltb, ne-eqb}
-use Rattle.leb128.specs.Number.{Decoded, encode, decode, grouped}
+use Rattle.leb128.specs.Number.{Decoded, encode, decode, grouped, AreBytes}
 use Rattle.leb128.specs.Number.Decoded.{number, ended, overlong}
 use Rattle.leb128.specs.laws.Cases.{test, lt-or-le, eq-or-ne}
 
@@ -88,10 +88,6 @@ pub record Encoded (k n size : ℕ) (bytes : List ℕ) : Type 0 where
   pub below : n < 128 ^ k
   pub size-is : length (encode k n) ≡ size
   pub bytes-are : bytes ≡ encode k n ++ drop size bytes
-
--- the elements are bytes
-abbrev pub AreBytes : List ℕ → Type 0
-AreBytes bytes = (i : ℕ) → getD bytes i 0 < 256
 
 -- an end is no number
 pub ended-not : (n size : ℕ) → ended ≡ number n size → ⊥

@@ -10,7 +10,7 @@ use lib.Seq.{drop-cons}
 use lib.Dec.{eqb}
 use borrow.Author.Tests.{lt-ltb, le-ltb, eq-eqb, eqb-true}
 use Rattle.leb128.specs.Refusals.{slice-short}
-use Rattle.leb128.specs.Grammar.{Grammar}
+use Rattle.leb128.specs.Grammar.{Grammar, Accepts}
 use Rattle.leb128.specs.Source.{Item, refusal, in-bytes, in-list}
 use Rattle.leb128.specs.Source.Item.{value}
 use Rattle.leb128.specs.Walk.{Walk, walk}
@@ -20,7 +20,7 @@ use Rattle.leb128.specs.Format.Result.{elements}
 use Rattle.leb128.specs.declared.Refusal.{Refusal}
 use Rattle.leb128.specs.laws.Cases.{test, lt-or-le}
 use Rattle.leb128.specs.laws.ItemCases.{list-value, list-ended}
-use Rattle.leb128.specs.laws.AcceptedNumbers.{Accepts, Chain, walk-chain, chain-accepts}
+use Rattle.leb128.specs.laws.AcceptedNumbers.{Chain, walk-chain, chain-accepts}
 use Rattle.leb128.specs.laws.AcceptedNumbers.Chain.{none, more}
 
 -- a refusal is no whole walk

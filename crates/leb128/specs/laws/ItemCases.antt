@@ -8,11 +8,11 @@ use lib.Seq.{drop-append-le, drop-append-seam, drop-drop, getD-drop}
 use borrow.Author.Tests.{lt-ltb, le-ltb}
 use Rattle.leb128.specs.Refusals.{input-ended}
 use Rattle.leb128.specs.Limits.{number-bytes, number-limit}
-use Rattle.leb128.specs.Number.{Decoded, encode, decode}
+use Rattle.leb128.specs.Number.{Decoded, encode, decode, AreBytes}
 use Rattle.leb128.specs.Number.Decoded.{number, ended, overlong}
 use Rattle.leb128.specs.Source.{refusal, decoded-item, byte-item, list-item}
 use Rattle.leb128.specs.Source.Item.{value, refused}
-use Rattle.leb128.specs.laws.DecodeEncode.{AreBytes, decode-size, decode-back, encode-decode}
+use Rattle.leb128.specs.laws.DecodeEncode.{decode-size, decode-back, encode-decode}
 use Rattle.leb128.specs.laws.DecodeFront.{decode-front, decode-not-ended}
 
 module _ (numbers : List ℕ) (at : ℕ) where

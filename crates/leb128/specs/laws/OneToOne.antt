@@ -9,19 +9,18 @@ use lib.ListN.{length, getD, take, drop, length-append, length-drop, take-append
 use lib.Seq.{drop-cons, take-append-seam}
 use borrow.Author.Tests.{le-ltb}
 use Rattle.leb128.specs.Limits.{number-bytes, number-limit}
-use Rattle.leb128.specs.Number.{encode}
-use Rattle.leb128.specs.Grammar.{Form, Grammar, Rule}
+use Rattle.leb128.specs.Number.{encode, AreBytes}
+use Rattle.leb128.specs.Grammar.{Form, Grammar, Rule, Accepts}
 use Rattle.leb128.specs.Grammar.Form.{above}
 use Rattle.leb128.specs.Source.{Item, raised, byte-item, in-bytes, in-list}
 use Rattle.leb128.specs.Source.Item.{value}
 use Rattle.leb128.specs.Format.{complete, walk-bytes, walk-list, held, encoded, made, reading, writing}
 use Rattle.leb128.specs.Format.Result.{elements}
-use Rattle.leb128.specs.laws.DecodeEncode.{AreBytes}
 use Rattle.leb128.specs.laws.ItemCases.{list-value, encoded-item, passed}
 use Rattle.leb128.specs.laws.EachNumber.{Each}
 use Rattle.leb128.specs.laws.EachNumber.Each.{end, each}
-use Rattle.leb128.specs.laws.AcceptedNumbers.{Accepts, Chain, chain-walk, chain-accepts}
-use Rattle.leb128.specs.laws.AcceptedNumbers.Accepts.{nil, one}
+use Rattle.leb128.specs.laws.AcceptedNumbers.{Chain, chain-walk, chain-accepts}
+use Rattle.leb128.specs.Grammar.Accepts.{nil, one}
 use Rattle.leb128.specs.laws.AcceptedNumbers.Chain.{none, more}
 use Rattle.leb128.specs.laws.GoodFormat.{same-self, good-reading, good-writing}
 

@@ -19,10 +19,9 @@ use Rattle.leb128.specs.Walk.{Walk, checked, led, followed, walk}
 use Rattle.leb128.specs.Walk.Walk.{whole, refused}
 use Rattle.leb128.specs.Format.{Result, Outcome, same, walk-bytes, complete, walk-list, encoded, made, reading, writing, answered}
 use Rattle.leb128.specs.declared.Refusal.{Refusal}
-use Rattle.leb128.specs.laws.Cases.{lt-or-le}
+use Rattle.leb128.specs.laws.Cases.{lt-or-le, eq-or-ne}
 use Rattle.leb128.specs.laws.ItemCases.{list-value, list-ended}
 use Rattle.leb128.specs.laws.StepCases.{checked-good, checked-broken, checked-value}
-use Rattle.leb128.specs.laws.Cases.{eq-or-ne}
 use Rattle.leb128.specs.laws.EachNumber.{Each}
 use Rattle.leb128.specs.laws.EachNumber.Each.{end, each}
 

@@ -10,8 +10,7 @@ use Rattle.leb128.specs.Grammar.{Grammar, plain, within}
 use Rattle.sheet.specs.Limits.{max-kind}
 use Rattle.sheet.specs.Grammar.{edge, edges}
 use Rattle.leb128.specs.Grammar.Grammar.{number}
-use Rattle.sheet.specs.inside.Cursor.{Counted, Reads, Limited, walk-from, onward, walked}
-use Rattle.sheet.specs.inside.Cursor.{Edge}
+use Rattle.sheet.specs.inside.Cursor.{Counted, Reads, Limited, walk-from, onward, walked, Edge}
 use Rattle.sheet.specs.declared.Cursor.{Cursor}
 use Rattle.leb128.specs.declared.Refusal.{Refusal}
 use Rattle.sheet.specs.declared.Step.{Step}

@@ -10,8 +10,7 @@ use lib.Seq.{take-suc-set}
 use Rattle.sheet.specs.Limits.{max-nodes, max-layer-nodes}
 use Rattle.leb128.specs.Grammar.{Grammar}
 use Rattle.sheet.specs.Grammar.{separations, layers}
-use Rattle.sheet.specs.inside.Cursor.{Counted, Limited, walk-from, onward}
-use Rattle.sheet.specs.inside.Cursor.{Separation, LayersRead}
+use Rattle.sheet.specs.inside.Cursor.{Counted, Limited, walk-from, onward, Separation, LayersRead}
 use Rattle.sheet.specs.declared.Cursor.{Cursor}
 use Rattle.leb128.specs.declared.Refusal.{Refusal}
 use Rattle.sheet.specs.declared.Step.{Step}

@@ -5,13 +5,12 @@ use mathlib.Core.List.{List, _++_}
 use native.Mathlib.Omega.{arith}
 use lib.ListN.{length, getD, drop, length-append}
 use Rattle.leb128.specs.Limits.{number-limit}
-use Rattle.leb128.specs.Grammar.{Grammar}
+use Rattle.leb128.specs.Grammar.{Grammar, Accepts}
 use Rattle.leb128.specs.Format.{Result, reading, writing, answered, filled, outcome}
 use Rattle.leb128.specs.Format.Result.{elements}
 use Rattle.leb128.specs.laws.EachNumber.{Each}
 use Rattle.leb128.specs.laws.EachNumber.Each.{end, each}
-use Rattle.leb128.specs.laws.AcceptedNumbers.{Accepts}
-use Rattle.leb128.specs.laws.AcceptedNumbers.Accepts.{nil, one}
+use Rattle.leb128.specs.Grammar.Accepts.{nil, one}
 use Rattle.leb128.specs.laws.GoodFormat.{good-writing, answered-wrote, filled-refused, filled-elements}
 use Rattle.leb128.specs.declared.Refusal.{Refusal}
 use Rattle.leb128.specs.declared.Answer.{Answer}

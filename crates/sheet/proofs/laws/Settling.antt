@@ -12,7 +12,7 @@ use borrow.Author.Tests.{lt-ltb, le-ltb}
 use Rattle.leb128.specs.Limits.{number-bytes}
 use Rattle.leb128.specs.Refusals.{something-follows, slice-short}
 use Rattle.leb128.specs.Number.{encode}
-use Rattle.leb128.specs.Grammar.{Form, Grammar, plain}
+use Rattle.leb128.specs.Grammar.{Form, Grammar, plain, Accepts}
 use Rattle.leb128.specs.Source.{refusal, in-list}
 use Rattle.leb128.specs.Walk.{Walk, walk}
 use Rattle.leb128.specs.Walk.Walk.{whole, refused}
@@ -20,8 +20,8 @@ use Rattle.leb128.specs.Format.{Outcome, complete, walk-bytes, walk-list, held,
 use Rattle.leb128.specs.laws.Cases.{lt-or-le}
 use Rattle.leb128.specs.laws.EachNumber.{Each}
 use Rattle.leb128.specs.laws.EachNumber.Each.{end, each}
-use Rattle.leb128.specs.laws.AcceptedNumbers.{Accepts, walk-chain, chain-accepts}
-use Rattle.leb128.specs.laws.AcceptedNumbers.Accepts.{nil, one}
+use Rattle.leb128.specs.laws.AcceptedNumbers.{walk-chain, chain-accepts}
+use Rattle.leb128.specs.Grammar.Accepts.{nil, one}
 use Rattle.leb128.specs.laws.GoodFormat.{complete-good}
 use Rattle.leb128.specs.declared.Refusal.{Refusal}
 use Rattle.sheet.specs.Limits.{magic}

@@ -7,8 +7,7 @@ use Rattle.sheet.specs.Limits.{max-width, max-layers, max-nodes, max-edg
 use Rattle.leb128.specs.Grammar.{Grammar, plain, within}
 use Rattle.sheet.specs.Grammar.{layers, edges, sheet}
 use Rattle.leb128.specs.Grammar.Grammar.{number}
-use Rattle.sheet.specs.inside.Cursor.{Measure, Counted, Limited, walk-from, onward, walked}
-use Rattle.sheet.specs.inside.Cursor.{LayersRead}
+use Rattle.sheet.specs.inside.Cursor.{Measure, Counted, Limited, walk-from, onward, walked, LayersRead}
 use Rattle.sheet.specs.declared.Cursor.{Cursor}
 use Rattle.leb128.specs.declared.Refusal.{Refusal}
 use Rattle.sheet.specs.declared.Step.{Step}

@@ -6,13 +6,12 @@ use mathlib.Core.List.{List, [], _∷_, _++_}
 use native.Mathlib.Omega.{arith}
 use lib.ListN.{length, getD, drop, length-drop}
 use lib.Seq.{drop-drop, getD-drop}
-use Rattle.leb128.specs.Grammar.{Form, Grammar, Rule}
+use Rattle.leb128.specs.Grammar.{Form, Grammar, Rule, Accepts}
 use Rattle.leb128.specs.Grammar.Grammar.{number}
 use Rattle.leb128.specs.laws.EachNumber.{within-limits}
-use Rattle.leb128.specs.laws.AcceptedNumbers.{Accepts}
-use Rattle.leb128.specs.laws.AcceptedNumbers.Accepts.{nil, one}
+use Rattle.leb128.specs.Grammar.Accepts.{nil, one}
 use Rattle.sheet.specs.Limits.{max-width, max-layers, max-layer-nodes, max-nodes, max-edges}
-use Rattle.sheet.specs.Layout.{width-at, layers-at, nodes-at, separation-stride, layer-size, behind-layers, nodes-of, edges-at, edge-stride, node-count, edge-part, edge-count}
+use Rattle.sheet.specs.Layout.{width-at, layers-at, nodes-at, separation-stride, layer-size, behind-layers, nodes-of, edges-at, edge-stride, node-count, edge-part, edge-count, LaidOut}
 use Rattle.sheet.specs.Grammar.{separation, separations, layers, edge, edges, sheet}
 
 -- the first number meets its rule, and what follows it is accepted
@@ -83,14 +82,6 @@ edges-end (suc n) counts a =
     let lower = opened (upper .rest) in
     let kind = opened (lower .rest) in
     omega (arith, layer .there, upper .there, lower .there, kind .there, edges-end n counts (kind .rest))
-
--- what the layout says of a good sheet's numbers
-pub record LaidOut (numbers : List ℕ) : Type 0 where
-  pub width : getD numbers width-at 0 ≤ max-width
-  pub layer-count : (1 ≤ getD numbers layers-at 0) × (getD numbers layers-at 0 ≤ max-layers)
-  pub nodes : node-count numbers ≤ max-nodes
-  pub edges : edge-count numbers ≤ max-edges
-  pub size : length (edge-part numbers) ≡ edges-at + edge-stride * edge-count numbers
 
 -- a good sheet's numbers are laid out so
 pub laid-out : (numbers : List ℕ) → Accepts sheet numbers → LaidOut numbers

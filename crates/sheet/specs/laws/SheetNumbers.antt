@@ -15,18 +15,11 @@ use Rattle.leb128.specs.Grammar.{Form, Grammar, Rule, plain, within, both}
 use Rattle.leb128.specs.laws.Cases.{test, eq-or-ne, lt-or-le}
 use Rattle.leb128.specs.laws.EachNumber.{Each, first, each-more, within-limits}
 use Rattle.leb128.specs.laws.EachNumber.Each.{end}
-use Rattle.sheet.specs.Refusals.{separations-crossed}
+use Rattle.sheet.specs.Refusals.{separations-crossed, WriterRefusal}
+use Rattle.sheet.specs.Refusals.WriterRefusal.{ended, outside, apart, follows, short}
 use Rattle.sheet.specs.Limits.{max-width, max-kind, max-layers, max-layer-nodes, max-nodes, max-separation, max-edges, max-numbers}
 use Rattle.sheet.specs.Layout.{first-layer-at, separation-stride, layer-size, edges-at, edge-stride}
 use Rattle.sheet.specs.Grammar.{crossed, maximum-rule, separation, separations, layers, edge, edges, sheet}
-
--- the refusals that the writer gives
-pub data WriterRefusal : ℕ → Type 0 where
-  ended : WriterRefusal input-ended
-  outside : WriterRefusal outside-limits
-  apart : WriterRefusal separations-crossed
-  follows : WriterRefusal something-follows
-  short : WriterRefusal slice-short
 
 -- what holds of each number of a sheet
 pub record SheetNumber (form : Form) (rule : Rule) : Type 0 where

@@ -7,14 +7,14 @@ use mathlib.Core.Logic.{inl, inr, ⊎-elim}
 use native.Mathlib.Omega.{arith}
 use lib.ListN.{length, take}
 use Rattle.leb128.specs.Refusals.{slice-short}
-use Rattle.leb128.specs.Grammar.{Form, Rule}
+use Rattle.leb128.specs.Grammar.{Form, Rule, Accepts}
 use Rattle.leb128.specs.Source.{Source}
 use Rattle.leb128.specs.Walk.{asked}
 use Rattle.leb128.specs.Format.{Result, Outcome, encoded, reading, writing, answered}
 use Rattle.leb128.specs.Format.Result.{elements}
-use Rattle.leb128.specs.laws.DecodeEncode.{AreBytes}
+use Rattle.leb128.specs.Number.{AreBytes}
 use Rattle.leb128.specs.laws.EachNumber.{each-map, most-asked as format-most-asked}
-use Rattle.leb128.specs.laws.AcceptedNumbers.{Accepts, chain-accepts, most-numbers as accepted-most}
+use Rattle.leb128.specs.laws.AcceptedNumbers.{chain-accepts, most-numbers as accepted-most}
 use Rattle.leb128.specs.laws.GoodFormat.{good-reading, good-writing}
 use Rattle.leb128.specs.laws.OneToOne.{Fits, accepted-written as format-accepted-written, read-written as format-read-written, write-read as format-write-read}
 use Rattle.leb128.specs.laws.Offsets.{reader-offsets as format-reader-offsets, writer-offsets as format-writer-offsets}
@@ -23,9 +23,11 @@ use Rattle.leb128.specs.laws.RefusalsGiven.{reader-gives, writer-gives}
 use Rattle.leb128.specs.declared.Refusal.{Refusal}
 use Rattle.sheet.specs.Limits.{magic, max-numbers, max-bytes}
 use Rattle.sheet.specs.Grammar.{sheet}
-use Rattle.sheet.specs.laws.SheetNumbers.{SheetNumber, WriterRefusal, each-sheet}
-use Rattle.sheet.specs.laws.SheetNumbers.WriterRefusal.{ended, outside, apart, follows, short}
-use Rattle.sheet.specs.laws.LaidOut.{LaidOut, laid-out}
+use Rattle.sheet.specs.laws.SheetNumbers.{SheetNumber, each-sheet}
+use Rattle.sheet.specs.Refusals.{WriterRefusal, FormatRefusal}
+use Rattle.sheet.specs.Refusals.WriterRefusal.{ended, outside, apart, follows, short}
+use Rattle.sheet.specs.laws.LaidOut.{laid-out}
+use Rattle.sheet.specs.Layout.{LaidOut}
 
 -- the form holds each number
 fits : (form : Form) (rule : Rule) → SheetNumber form rule → Fits form rule
@@ -83,10 +85,6 @@ read-alike one other e = sym (first-bytes one) ∙ (ap (reading magic sheet) e �
 pub writer-refusals : (numbers : List ℕ) (room : ℕ) (r : Refusal)
     → answered room (writing magic sheet numbers) ≡ Outcome.refused r → WriterRefusal (r .number)
 writer-refusals = writer-gives WriterRefusal ended follows short (each-map (λ form rule p. p .gives) each-sheet) magic
-
--- numbers of refusals that reading and writing give: 1 to 7
-abbrev pub FormatRefusal : ℕ → Type 0
-FormatRefusal n = (0 < n) × (n ≤ slice-short)
 
 -- the writer's are among them
 pub writer-given : {n : ℕ} → WriterRefusal n → FormatRefusal n

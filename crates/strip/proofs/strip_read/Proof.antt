@@ -1,7 +1,8 @@
 -- `strip::strip_read` meets its contract: a word holds the answer of the inner call.
 use mathlib.Core.Path.{sym, _∙_, ap, subst}
 use Rattle.strip.specs.Words.{outcome-word}
-use Rattle.strip.specs.laws.Values.{HeldOutcome, reading-held}
+use Rattle.strip.specs.laws.Values.{reading-held}
+use Rattle.strip.specs.Held.{HeldOutcome}
 use borrow.Author.Needs.{needs}
 use Rattle.strip.proofs.strip_read.Statement.{statement}
 use Rattle.strip.proofs.strip_read.Tie as tie

@@ -14,34 +14,15 @@ use Rattle.leb128.specs.Format.Result.{elements}
 use Rattle.leb128.specs.laws.Cases.{lt-or-le}
 use Rattle.sheet.specs.Limits.{magic, max-bytes}
 use Rattle.sheet.specs.Grammar.{sheet}
-use Rattle.sheet.specs.laws.Sheets.{FormatRefusal, read-accepted, most-numbers, most-bytes, read-written, writer-refusals, writer-given, reader-refusals, reader-offsets, writer-offsets}
+use Rattle.sheet.specs.laws.Sheets.{read-accepted, most-numbers, most-bytes, read-written, writer-refusals, writer-given, reader-refusals, reader-offsets, writer-offsets}
+use Rattle.sheet.specs.Refusals.{FormatRefusal}
 use Rattle.drawing.specs.Sheet.{Sheet, sheet-of}
 use Rattle.checker.specs.Verdict.{Judgement, check-answer}
 use Rattle.checker.specs.laws.Refusals.{check-refusals}
 use Rattle.engine.specs.Draws.{Drawn, Refuses, DrawsSheet, Draws}
 use Rattle.engine.specs.Draws.Refuses.{few-places, few-numbers, none, passes}
 use Rattle.strip.specs.Words.{unit}
-
--- a refusal that a word holds
-pub record Held (r : Refusal) : Type 0 where
-  pub numbered : 0 < r .number
-  pub offset-in : r .offset < unit
-
--- an answer of reading or writing that a word holds
-abbrev pub HeldOutcome : Outcome → Type 0
-HeldOutcome (Outcome.wrote count) = count < unit
-HeldOutcome (Outcome.refused r) = Held r
-
--- one of drawing
-abbrev pub HeldDrawn : Drawn → Type 0
-HeldDrawn (Drawn.drawn total) = total < unit
-HeldDrawn (Drawn.refused r) = Held r
-
--- one of checking
-abbrev pub HeldJudgement : Judgement → Type 0
-HeldJudgement Judgement.accepted = 1 < unit
-HeldJudgement Judgement.rejected = 0 < unit
-HeldJudgement (Judgement.refused r) = Held r
+use Rattle.strip.specs.Held.{Held, HeldOutcome, HeldDrawn, HeldJudgement}
 
 -- a refusal of a format
 given-held : (r : Refusal) → FormatRefusal (r .number) → r .offset ≤ max-bytes → Held r

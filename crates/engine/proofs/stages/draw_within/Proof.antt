@@ -1,7 +1,8 @@
 -- `engine::stages::draw_within` meets its contract: start, flows and the writing, one after the other.
-use Prim.Native.Nat.{_+_}
-use mathlib.Core.Path.{_∙_}
-use borrow.Author.Tests.{not-true, not-false}
+use Prim.Native.Nat.{ℕ, _+_}
+use mathlib.Core.Path.{_∙_, ap}
+use Rattle.leb128.specs.Source.{refusal}
+use Rattle.engine.specs.declared.Answer.the-variants.{Refused}
 use Rattle.engine.specs.Draws.{result}
 use Rattle.engine.proofs.laws.Draw.{none-drawn, not-started, is-started, solved-from}
 use borrow.Author.Needs.{needs}
@@ -20,15 +21,13 @@ same-length c = search needs
 returns : tie.Need-returns
 returns c =
     let start = c .before .before .before .before .start in
+    let none = not-started _ _ _ (start .last .1 .1 .0) (start .result) (start .ensures) (c .before .if1 .taken) in
     none-drawn (c .before .before .before .before .before .before .before .before .before .before .args .places .now)
     (c .before .before .before .before .before .before .before .before .before .before .args .list .now)
-    (c .refused .ensures)
+    (c .refused .ensures ∙ ap (λ (k : ℕ). Refused (refusal k 0)) (none .0))
     (c .before .before .before .before .before .before .before .before .before .before .pre .1 .places-enough)
     (c .before .before .before .before .before .before .before .before .before .before .pre .1 .list-enough)
-    (not-started (c .before .before .before .before .before .before .before .before .before .before .args .arcs .now)
-    (c .before .before .before .before .before .before .before .before .before .before .args .counts .arcs)
-    (c .before .before .before .before .before .before .before .before .before .before .args .counts .nodes + 1)
-    (start .last .1 .1 .0) (start .result) (start .ensures) (not-true (start .result) (c .before .if1 .taken)))
+    (none .1)
 
 slice-aggregate-solve : tie.Need-slice-aggregate-solve
 slice-aggregate-solve c = search needs
@@ -46,7 +45,7 @@ finish-requires c κs =
     solved-from {c = entry .args .counts} (entry .args .flows .now) (start .last .1 .1 .0) _ _ _ _ (solve .result)
     (entry .pre .1 .flows-are) (start .kept .1 .1 .0 ∙ entry .pre .1 .nodes-are)
     (is-started (entry .args .arcs .now) (entry .args .counts .arcs) (entry .args .counts .nodes + 1)
-    (start .last .1 .1 .0) (start .result) (start .ensures) (not-false (start .result) (if1 .left)))
+    (start .last .1 .1 .0) (start .result) (start .ensures) (if1 .left))
     (solve .ensures) in (
       entry .pre .0,
       (

@@ -26,8 +26,8 @@ set-potentials-requires c κs =
       omega (arith, nodes-few (start .pre .0)),
     )
 
-found-requires : tie.Need-found-requires
-found-requires c κs = search needs
+finding-refusal-requires : tie.Need-finding-refusal-requires
+finding-refusal-requires c κs = search needs
 
 same-length : tie.Need-same-length
 same-length c = search needs
@@ -36,9 +36,9 @@ returns : tie.Need-returns
 returns c =
     let start = c .before .before .before .before .before .before .before .before .before .before .before .before in
     let least = c .before .before .before .before .before .before .before .least in
-    started-so (start .pre .0) _ _ (start .args .nodes .now) _ (least .result) (c .found .result)
+    started-so (start .pre .0) _ _ (start .args .nodes .now) _ (least .result) (c .finding-refusal .result)
     (omega (arith, nodes-few (start .pre .0))) (least .kept .1 .1 .1 .0) (start .pre .1) (least .ensures)
-    (c .before .before .before .set-potentials .ensures) (c .found .ensures)
+    (c .before .before .before .set-potentials .ensures) (c .finding-refusal .ensures)
 
 pub start-spec : {M : Type 1} → statement M
 start-spec =
@@ -49,6 +49,6 @@ start-spec =
     least-requires
     slice-aggregate-set-potentials
     set-potentials-requires
-    found-requires
+    finding-refusal-requires
     same-length
     returns)

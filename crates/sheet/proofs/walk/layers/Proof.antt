@@ -2,13 +2,12 @@
 use Prim.Native.Nat.{_-_, min}
 use Rattle.sheet.specs.Limits.{max-layer-nodes}
 use Rattle.sheet.specs.inside.Cursor.{Limited}
-use Rattle.sheet.proofs.laws.Steps.{relimit}
+use Rattle.sheet.proofs.laws.Steps.{relimit, limited-value}
 use mathlib.Core.Path.{_≡_, refl}
 use native.Mathlib.Omega.{arith}
 use borrow.Author.Needs.{needs}
 use lib.ListN.{length, length-set}
 use denote.Ref.{now}
-use Rattle.sheet.proofs.laws.Steps.{limited-value}
 use Rattle.sheet.proofs.laws.Layers.{PairsLeft, LayersLeft, pairs-begin, pair-next, layers-begin, layers-end, count-refused, layer-next, pair-refused}
 use Rattle.sheet.proofs.walk.layers.Statement.{statement}
 use Rattle.sheet.proofs.walk.layers.Tie as tie
