@@ -1,2 +1,3 @@
+pub mod CheckedLeast
 pub mod ReadBack
 pub mod Values

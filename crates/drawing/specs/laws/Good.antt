@@ -1,8 +1,7 @@
 -- What holds of a good sheet's numbers, layer by layer and edge by edge; n bounds the nodes.
 use Prim.Native.Nat.{ℕ, zero, suc, _+_, _-_, _*_, _≤_, _<_}
-use mathlib.Core.Bool.{Bool, true}
 use mathlib.Core.List.{List}
-use lib.Dec.{T, leb}
+use lib.Dec.{T}
 use lib.ListN.{length, getD, drop}
 use Rattle.sheet.specs.Limits.{max-width, max-layers, max-separation, max-edges, max-kind}
 use Rattle.sheet.specs.Layout.{width-at, layers-at, first-layer-at, nodes-at, separations-at, separation-stride, minimum-at, maximum-at, edge-count-at, edges-at, edge-stride, edge-layer-at, edge-upper-at, edge-lower-at, edge-kind-at, layer-size, next-layer, behind-layers}

@@ -1,7 +1,7 @@
 -- A good sheet is proper: within document 01's limits, and every end and every neighbour is a node.
-use Prim.Native.Nat.{ℕ, zero, suc, _+_, _-_, _≤_, _<_}
+use Prim.Native.Nat.{ℕ, zero, suc, _+_, _-_, _<_}
 use mathlib.Core.Path.{_≡_, refl, _∙_, ap}
-use mathlib.Core.Bool.{Bool, _&&_}
+use mathlib.Core.Bool.{_&&_}
 use mathlib.Core.List.{List}
 use native.Mathlib.Omega.{arith}
 use lib.Dec.{T, ltb, leb, lt→ltb, le→leb}
@@ -9,11 +9,11 @@ use lib.ListN.{length, getD, drop}
 use Rattle.network.specs.Sums.{all}
 use Rattle.network.specs.laws.Tests.{and-both}
 use Rattle.leb128.specs.Grammar.{Accepts}
-use Rattle.sheet.specs.Limits.{max-width, max-nodes, max-separation, max-edges, max-kind}
+use Rattle.sheet.specs.Limits.{max-separation, max-kind}
 use Rattle.sheet.specs.Layout.{layers-at, first-layer-at, nodes-at, separations-at, separation-stride, minimum-at, maximum-at, edge-count-at, edges-at, edge-stride, next-layer, behind-layers, node-count}
 use Rattle.sheet.specs.Grammar.{sheet}
 use Rattle.sheet.specs.laws.Sheets.{good-layout}
-use Rattle.drawing.specs.Sheet.{Pair, Edge, Sheet, pairs-of, layers-of, first-nodes, edge-of, edges-of, sheet-of}
+use Rattle.drawing.specs.Sheet.{Edge, pairs-of, layers-of, first-nodes, edge-of, edges-of, sheet-of}
 use Rattle.drawing.specs.laws.Good.{GoodPair, GoodPairs, GoodLayers, GoodEdges}
 use Rattle.drawing.specs.Proper.{not-crossed, proper-pair, proper-edge, Proper}
 use Rattle.drawing.specs.laws.GoodNumbers.{last-first-node, accepts-good}

@@ -2,7 +2,7 @@
 -- and no as the row does. So the contracts shut out every program that answers one of these sheets otherwise, as one that
 -- solves the first two layers and packs the others to the left.
 use Prim.Native.Nat.{ℕ}
-use mathlib.Core.Path.{_≡_, refl, _∙_, ap, ap₂, subst, sym}
+use mathlib.Core.Path.{_≡_, _∙_, ap, ap₂, subst}
 use mathlib.Core.Bool.{Bool, true, false}
 use mathlib.Core.List.{List, [], _∷_}
 use native.Mathlib.Omega.{arith}
@@ -25,7 +25,7 @@ use Rattle.drawing.specs.Table.{table}
 use Rattle.drawing.specs.laws.Proper.{accepts-proper}
 use Rattle.drawing.specs.laws.Unique.{leftmost-unique}
 use Rattle.drawing.specs.laws.Table.{sheets}
-use Rattle.checker.specs.Verdict.{Judgement, said, check-answer}
+use Rattle.checker.specs.Verdict.{said, check-answer}
 use Rattle.checker.specs.laws.Decided.{numbers-decided, said-yes-is, said-no-is}
 use Rattle.engine.specs.Refusals.{none-exists}
 use Rattle.engine.specs.Draws.{Drawn, Room, NoDrawing, DrawsSheet, Draws}

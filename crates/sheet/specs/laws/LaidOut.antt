@@ -11,7 +11,7 @@ use Rattle.leb128.specs.Grammar.Grammar.{number}
 use Rattle.leb128.specs.laws.EachNumber.{within-limits}
 use Rattle.leb128.specs.Grammar.Accepts.{nil, one}
 use Rattle.sheet.specs.Limits.{max-width, max-layers, max-layer-nodes, max-nodes, max-edges}
-use Rattle.sheet.specs.Layout.{width-at, layers-at, nodes-at, separation-stride, layer-size, behind-layers, nodes-of, edges-at, edge-stride, node-count, edge-part, edge-count, LaidOut}
+use Rattle.sheet.specs.Layout.{width-at, layers-at, nodes-at, separation-stride, layer-size, behind-layers, nodes-of, edges-at, edge-stride, edge-count, LaidOut}
 use Rattle.sheet.specs.Grammar.{separation, separations, layers, edge, edges, sheet}
 
 -- the first number meets its rule, and what follows it is accepted

@@ -10,13 +10,12 @@ use lib.ListN.{length, getD, length-append}
 use lib.Dec.{ltb, leb, eqb}
 use borrow.Author.Tests.{eq-eqb, ne-eqb, lt-ltb}
 use Rattle.leb128.specs.Limits.{number-limit, list-limit}
-use Rattle.leb128.specs.Refusals.{input-ended, outside-limits, something-follows, slice-short}
 use Rattle.leb128.specs.Grammar.{Form, Grammar, Rule, plain, within, both}
 use Rattle.leb128.specs.laws.Cases.{test, eq-or-ne, lt-or-le}
 use Rattle.leb128.specs.laws.EachNumber.{Each, first, each-more, within-limits}
 use Rattle.leb128.specs.laws.EachNumber.Each.{end}
 use Rattle.sheet.specs.Refusals.{separations-crossed, WriterRefusal}
-use Rattle.sheet.specs.Refusals.WriterRefusal.{ended, outside, apart, follows, short}
+use Rattle.sheet.specs.Refusals.WriterRefusal.{outside, apart}
 use Rattle.sheet.specs.Limits.{max-width, max-kind, max-layers, max-layer-nodes, max-nodes, max-separation, max-edges, max-numbers}
 use Rattle.sheet.specs.Layout.{first-layer-at, separation-stride, layer-size, edges-at, edge-stride}
 use Rattle.sheet.specs.Grammar.{crossed, maximum-rule, separation, separations, layers, edge, edges, sheet}

@@ -1,12 +1,11 @@
 -- What holds of sheets, by the laws of any format at the sheet's magic and grammar: one to one, the bounds, the first
 -- bytes, the offsets and the refusals of writer and reader.
-use Prim.Native.Nat.{ℕ, _+_, _≤_, _<_}
+use Prim.Native.Nat.{ℕ, _+_, _≤_}
 use mathlib.Core.Path.{_≡_, sym, _∙_, ap}
 use mathlib.Core.List.{List, _++_}
 use mathlib.Core.Logic.{inl, inr, ⊎-elim}
 use native.Mathlib.Omega.{arith}
 use lib.ListN.{length, take}
-use Rattle.leb128.specs.Refusals.{slice-short}
 use Rattle.leb128.specs.Grammar.{Form, Rule, Accepts}
 use Rattle.leb128.specs.Source.{Source}
 use Rattle.leb128.specs.Walk.{asked}
