@@ -1,14 +1,14 @@
 -- The problem of source 004 (Jünger, Mutzel and Spisla) for a sheet: integer coordinates, negative ones too, whose width is
 -- the greatest minus the least.
 use mathlib.Core.Path.{_≡_}
-use mathlib.Core.List.{List, [], _∷_}
+use mathlib.Core.List.{List, [], _∷_, map}
 use mathlib.Core.Bool.{Bool, true, _&&_, cond}
 use Prim.Native.Nat.{ℕ, zero, suc, _≤_}
 use lib.Dec.{T}
 use lib.ListN.{length}
 use lib.IntN.{ℤ, pos, _+ℤ_, _-ℤ_, natAbs}
 use lib.Signed.{_≤ℤ_, leZ}
-use Rattle.network.specs.Integers.{eqZ}
+use Rattle.network.specs.Integers.{eqZ, gap}
 use Rattle.network.specs.Sums.{sumℕ, all}
 use Rattle.network.specs.Network.{potential}
 use Rattle.drawing.specs.Sheet.{Pair, Edge, Sheet}
@@ -74,3 +74,7 @@ total-lengthZ S x = sumℕ (edge-lengthZ x) (S .edges)
 pub record LeastAssignment (S : Sheet) (x : List ℤ) : Type 0 where
   pub assignment : Assignment S x
   pub least : (z : List ℤ) → Assignment S z → total-lengthZ S x ≤ total-lengthZ S z
+
+-- an assignment shifted to start at 0: the distances from its least coordinate
+abbrev pub shifted : List ℤ → List ℕ
+shifted x = map (gap (least-of x)) x

@@ -9,9 +9,9 @@ use lib.Signed.{mag, natAbs-le}
 use mir.Facts.{toZ-ofZ, sfits-widen}
 use mir.Syntax.{Width, w32, w64}
 use mir.Val.{SFits, hbits, toZ, ofZ}
-use Rattle.network.specs.Integers.{eqZ}
+use Rattle.network.specs.Integers.{eqZ, down, up}
 use Rattle.network.specs.Packed.{kink-zero}
-use Rattle.network.specs.laws.IntegerParts.{up, down, sum-parts, min-parts, up-neg, down-neg}
+use Rattle.network.specs.laws.IntegerParts.{sum-parts, min-parts, up-neg, down-neg}
 use Rattle.network.specs.laws.Integers.{eqZ→eq, eq→eqZ}
 use Rattle.network.specs.laws.Sizes.{size-parts, size-neg, size-add, size-mul, size-fits, fits-size}
 use Rattle.network.specs.laws.Tests.{test-ext}

@@ -13,7 +13,8 @@ use borrow.Author.Tests.{eq-eqb, ne-eqb, not-true, not-false}
 use Rattle.network.specs.Network.{unlimited, limit, Arc, potential, integers, past-kink, finite, at-least, at-most, legal, legal-at}
 use Rattle.network.specs.Flows.{allowed}
 use Rattle.network.specs.Packed.{tail-at, head-at, kink-at, low-at, high-at, stride, kink-zero, flow-zero, low-none, high-none, low-of, high-of, arc-at, flow-at}
-use Rattle.network.specs.laws.IntegerParts.{up, down, sum-parts, up-neg, down-neg}
+use Rattle.network.specs.laws.IntegerParts.{sum-parts, up-neg, down-neg}
+use Rattle.network.specs.Integers.{down, up}
 use Rattle.drawing.specs.Drawing.{coordinate}
 use Rattle.arcs.specs.Words.{Small}
 use Rattle.checker.specs.inside.Table.{Wide}

@@ -10,8 +10,8 @@ use Rattle.circulation.specs.inside.Steps.{Flooded}
 use Rattle.circulation.specs.inside.Finish.{Settled}
 use Rattle.circulation.specs.laws.Columns.{column-length}
 use Rattle.network.specs.laws.SumsTo.{sum-to-ge}
-use Rattle.network.specs.laws.IntegerParts.{up, down, le-parts, parts-le, parts-eq}
-use Rattle.network.specs.Integers.{eqZ}
+use Rattle.network.specs.laws.IntegerParts.{le-parts, parts-le, parts-eq}
+use Rattle.network.specs.Integers.{down, up, eqZ}
 use Rattle.network.specs.laws.Integers.{eqZ→eq, ≤ℤ-of-eq}
 use Rattle.network.specs.Network.{LeftmostLeast, potential, unlimited, limit, reached, past-kink}
 use Rattle.network.specs.Flows.{Flow, rules, complementary, tight}

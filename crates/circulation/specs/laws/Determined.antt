@@ -2,7 +2,7 @@
 -- finding, and nodes and chains are equal.
 use Rattle.network.specs.Net.{at, Net, meant}
 use Rattle.network.specs.laws.Indexed.{upto-in}
-use Rattle.network.specs.laws.IntegerParts.{up, down}
+use Rattle.network.specs.Integers.{down, up}
 use Rattle.network.specs.laws.PackedLegal.{less-parts}
 use Rattle.network.specs.laws.Unique.{leftmost-unique}
 use Rattle.circulation.specs.Nodes.{potentials, size, node-stride, potential-zero}

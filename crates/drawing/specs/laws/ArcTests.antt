@@ -9,7 +9,8 @@ use lib.ListN.{length, List·getD-map}
 use lib.IntN.{ℤ, pos, negsuc, negℤ, _+ℤ_, _-ℤ_}
 use lib.Signed.{_≤ℤ_, leZ-yes}
 use borrow.Author.Tests.{eq-eqb}
-use Rattle.network.specs.laws.IntegerParts.{up, down, le-parts, parts-le, sum-parts, up-neg, down-neg, min-parts}
+use Rattle.network.specs.laws.IntegerParts.{le-parts, parts-le, sum-parts, up-neg, down-neg, min-parts}
+use Rattle.network.specs.Integers.{down, up}
 use Rattle.network.specs.Sums.{sum, all}
 use Rattle.network.specs.laws.Tests.{test-ext, all-ext, all-append, all-flat}
 use Rattle.network.specs.laws.Sums.{sum-append, sum-flat, sum-null}

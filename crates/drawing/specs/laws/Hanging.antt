@@ -11,7 +11,7 @@ use lib.Signed.{_≤ℤ_, leZ-yes}
 use Rattle.leb128.specs.laws.Cases.{lt-or-le, eq-or-ne}
 use Rattle.network.specs.Sums.{all}
 use Rattle.network.specs.Network.{Arc, Feasible, integers}
-use Rattle.network.specs.laws.IntegerParts.{up}
+use Rattle.network.specs.Integers.{up}
 use Rattle.network.specs.laws.Tests.{and-left}
 use Rattle.network.specs.laws.Hanging.{Hook, Hangs, hook-first, hook-second, natural-potentials}
 use Rattle.sheet.specs.Layout.{layers-at, first-layer-at, nodes-at, separations-at, separation-stride, minimum-at, maximum-at, next-layer}

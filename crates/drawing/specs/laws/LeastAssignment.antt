@@ -7,8 +7,8 @@ use Rattle.network.specs.Network.{integers}
 use Rattle.drawing.specs.Sheet.{Sheet}
 use Rattle.drawing.specs.Proper.{Proper}
 use Rattle.drawing.specs.Drawing.{LeastDrawing}
-use Rattle.drawing.specs.Assignment.{LeastAssignment}
-use Rattle.drawing.specs.laws.Shift.{shifted, shifted-drawing, shifted-total, drawing-assignment, drawing-length}
+use Rattle.drawing.specs.Assignment.{LeastAssignment, shifted}
+use Rattle.drawing.specs.laws.Shift.{shifted-drawing, shifted-total, drawing-assignment, drawing-length}
 
 module _ (S : Sheet) (proper : Proper S) where
   -- a least drawing is a least assignment

@@ -9,14 +9,15 @@ use lib.Dec.{T, ltb, ltb→lt, leb, leb→le, le→leb, eqb, eqb-refl}
 use lib.ListN.{length, getD, length-map}
 use lib.IntN.{ℤ, pos, negℤ, _+ℤ_, _-ℤ_, natAbs}
 use lib.Signed.{_≤ℤ_, leZ, ltZ, leZ-yes, ltZ-no, ≤ℤ-refl}
-use Rattle.network.specs.laws.IntegerParts.{up, down, le-parts, parts-le, sum-parts, up-neg, down-neg, min-parts}
-use Rattle.network.specs.laws.Integers.{gap, gap-is, eqZ→eq}
+use Rattle.network.specs.laws.IntegerParts.{le-parts, parts-le, sum-parts, up-neg, down-neg, min-parts}
+use Rattle.network.specs.Integers.{down, up, gap}
+use Rattle.network.specs.laws.Integers.{gap-is, eqZ→eq}
 use Rattle.network.specs.laws.Sizes.{size-parts}
 use Rattle.network.specs.Sums.{sumℕ, all}
 use Rattle.network.specs.laws.Tests.{not-not, and-left, and-right, and-both, all-map₂, all-ext}
 use Rattle.network.specs.laws.Sums.{sumℕ-ext}
 use Rattle.network.specs.Network.{potential, integers}
-use Rattle.drawing.specs.Assignment.{least-of, greatest-of, extent, within-maximumZ, separatedZ, alignedZ, edge-alignedZ, Assignment, edge-lengthZ, total-lengthZ}
+use Rattle.drawing.specs.Assignment.{least-of, greatest-of, extent, within-maximumZ, separatedZ, alignedZ, edge-alignedZ, Assignment, edge-lengthZ, total-lengthZ, shifted}
 use Rattle.drawing.specs.laws.ArcTests.{integer-coordinate}
 use Rattle.drawing.specs.laws.Extents.{least-le, le-greatest, least-is, greatest-is}
 use Rattle.drawing.specs.Sheet.{Pair, Edge, Sheet}
@@ -24,10 +25,6 @@ use Rattle.drawing.specs.Drawing.{coordinate, within-maximum, separated,
 use Rattle.drawing.specs.laws.SameDrawings.{inside-at, at-inside}
 use Rattle.sheet.specs.Limits.{max-separation, max-kind}
 use Rattle.drawing.specs.Proper.{not-crossed, proper-edge, proper-pair, Proper}
-
--- the distances from the least coordinate
-abbrev pub shifted : List ℤ → List ℕ
-shifted x = map (gap (least-of x)) x
 
 -- an element of a mapped list, where it is there
 mapped : {A B : Type 0} (f : A → B) (xs : List A) (d : A) (e : B) (v : ℕ) → v < length xs → getD (map f xs) v e ≡ f (getD xs v d)

@@ -9,8 +9,8 @@ use lib.Dec.{T, leb, leb→le, le→leb, leb·zero, leb·suc-zero}
 use lib.ListN.{length, length-map}
 use lib.IntN.{ℤ, pos, negsuc, negℤ}
 use lib.Signed.{leZ, leZ-yes}
-use Rattle.network.specs.laws.IntegerParts.{up, down, le-parts, parts-le, up-neg, down-neg}
-use Rattle.network.specs.Integers.{eqZ}
+use Rattle.network.specs.laws.IntegerParts.{le-parts, parts-le, up-neg, down-neg}
+use Rattle.network.specs.Integers.{down, up, eqZ}
 use Rattle.network.specs.Sums.{all, below}
 use Rattle.network.specs.laws.Tests.{and-left, and-right, test-ext, all-ext, all-ext₂, all-append, all-flat}
 use Rattle.network.specs.Network.{Network, Feasible, integers, past-kink}

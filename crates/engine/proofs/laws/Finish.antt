@@ -14,7 +14,7 @@ use Rattle.network.specs.Network.{Network, integers, LeftmostLeast, total}
 use Rattle.network.specs.Flows.{rules, complementary}
 use Rattle.network.specs.Packed.{stride, network-of}
 use Rattle.network.specs.Net.{at, net, meant}
-use Rattle.network.specs.laws.IntegerParts.{up, down}
+use Rattle.network.specs.Integers.{down, up}
 use Rattle.network.specs.laws.Indexed.{upto-length, upto-in}
 use Rattle.network.specs.laws.PackedLegal.{less-parts}
 use Rattle.network.specs.laws.Duality.{tight-equal}

@@ -12,7 +12,7 @@ use Rattle.network.specs.Sums.{all}
 use Rattle.network.specs.Network.{limit, Arc, Network}
 use Rattle.network.specs.Packed.{stride, head-at, kink-at, low-at, high-at, kink-zero, flow-zero, low-none, high-none, low-of, high-of, arc-at, network-of}
 use Rattle.network.specs.Net.{at, net}
-use Rattle.network.specs.laws.IntegerParts.{up, down}
+use Rattle.network.specs.Integers.{down, up}
 use Rattle.network.specs.laws.Sizes.{size-parts}
 use Rattle.network.specs.laws.Indexed.{upto-all}
 use Rattle.network.specs.laws.PackedLegal.{less-parts}

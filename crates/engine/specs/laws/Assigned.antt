@@ -14,10 +14,10 @@ use Rattle.sheet.specs.Grammar.{sheet}
 use Rattle.sheet.specs.laws.Sheets.{read-accepted}
 use Rattle.network.specs.Network.{integers}
 use Rattle.drawing.specs.Sheet.{sheet-of}
-use Rattle.drawing.specs.Assignment.{Assignment, LeastAssignment}
+use Rattle.drawing.specs.Assignment.{Assignment, LeastAssignment, shifted}
 use Rattle.drawing.specs.Proper.{Proper}
 use Rattle.drawing.specs.laws.Proper.{accepts-proper}
-use Rattle.drawing.specs.laws.Shift.{shifted, shifted-drawing}
+use Rattle.drawing.specs.laws.Shift.{shifted-drawing}
 use Rattle.drawing.specs.laws.LeastAssignment.{drawing-least-assignment}
 use Rattle.engine.specs.Refusals.{none-exists}
 use Rattle.engine.specs.Draws.{Drawn, Room, Refuses, DrawsSheet, Draws}

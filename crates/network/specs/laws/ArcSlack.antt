@@ -10,7 +10,8 @@ use lib.IntN.{ℤ, pos, negsuc, _+ℤ_, _*ℤ_, *ℤ-zero, zero-*ℤ, -ℤ-+ℤ-
 use lib.Signed.{_≤ℤ_, leZ-yes}
 use Rattle.network.specs.Network.{Limit, unlimited, limit, finite, value, reached, at-most, at-least, Arc, legal-at, cost-at, past-kink}
 use Rattle.network.specs.Flows.{Flow, allowed, tight-at}
-use Rattle.network.specs.laws.Integers.{gap, gap-is, gap-zero, gap-self, +ℤ-*ℤ, eqZ→eq, eq→eqZ}
+use Rattle.network.specs.laws.Integers.{gap-is, gap-zero, gap-self, +ℤ-*ℤ, eqZ→eq, eq→eqZ}
+use Rattle.network.specs.Integers.{gap}
 use Rattle.network.specs.laws.Tests.{and-left, and-right}
 
 -- the slack of an arc with flow y, d past its kink

@@ -9,7 +9,8 @@ use lib.IntN.{ℤ, pos, negsuc, negℤ, _+ℤ_, _-ℤ_}
 use lib.Signed.{_≤ℤ_, leZ-yes}
 use Rattle.network.specs.Network.{reached, Arc, potential, past-kink}
 use Rattle.network.specs.Flows.{Flow, tight-at, tight}
-use Rattle.network.specs.laws.IntegerParts.{up, down, le-parts, parts-le, up-neg, down-neg, sum-parts}
+use Rattle.network.specs.laws.IntegerParts.{le-parts, parts-le, up-neg, down-neg, sum-parts}
+use Rattle.network.specs.Integers.{down, up}
 use Rattle.network.specs.laws.Tests.{not-not}
 
 module _ (h t k : ℤ) where

@@ -13,7 +13,8 @@ use lib.ListN.{List·getD-eq-default}
 use lib.Signed.{_≤ℤ_, leZ-yes}
 use Rattle.network.specs.Sums.{all}
 use Rattle.network.specs.Network.{unlimited, Arc, Network, potential, integers, past-kink, legal, legal-at, Feasible}
-use Rattle.network.specs.laws.IntegerParts.{up, down, le-parts, sum-parts, up-neg, down-neg, min-parts}
+use Rattle.network.specs.laws.IntegerParts.{le-parts, sum-parts, up-neg, down-neg, min-parts}
+use Rattle.network.specs.Integers.{down, up}
 use Rattle.network.specs.laws.Tests.{and-left, and-right, all-append}
 
 -- among the arcs one with an unlimited high and a kink that is not positive leads from v to ground, behind the nodes, or to

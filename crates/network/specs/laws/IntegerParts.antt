@@ -7,16 +7,7 @@ use native.Mathlib.Omega.{arith}
 use lib.Dec.{T, ltb, ltb→lt, nltb→le, leb→le, le→leb}
 use lib.IntN.{ℤ, pos, negsuc, negℤ, _+ℤ_, subℕ}
 use lib.Signed.{_≤ℤ_}
-
--- how far above 0
-unfoldable pub up : ℤ → ℕ
-up (pos n) = n
-up (negsuc n) = 0
-
--- how far below 0
-unfoldable pub down : ℤ → ℕ
-down (pos n) = 0
-down (negsuc n) = suc n
+use Rattle.network.specs.Integers.{up, down}
 
 -- the order in the parts
 pub le-parts : {a b : ℤ} → a ≤ℤ b → up a + down b ≤ up b + down a

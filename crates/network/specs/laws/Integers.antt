@@ -1,13 +1,13 @@
 -- Laws of integers that the library lacks: how order, sum and product go together, and equality as a test. Orders and linear
 -- equations by their parts; products by induction.
-use Prim.Native.Nat.{ℕ, zero, suc, _+_, _-_}
+use Prim.Native.Nat.{ℕ, zero, suc}
 use mathlib.Core.Path.{_≡_, sym, _∙_, ap, subst}
 use native.Mathlib.Omega.{arith}
 use lib.Dec.{T, eqb→eq, eqb-refl}
 use lib.IntN.{ℤ, pos, negsuc, negℤ, sucℤ, predℤ, _+ℤ_, _-ℤ_, _*ℤ_, +ℤ-sucℤ, +ℤ-predℤ, +ℤ-assoc, +ℤ-idr, sucℤ-*ℤ, predℤ-*ℤ, zero-*ℤ, *ℤ-comm, *ℤ-zero, +ℤ-invr, negℤ-+ℤ}
 use lib.Signed.{_≤ℤ_, ≤ℤ-refl}
-use Rattle.network.specs.Integers.{eqZ}
-use Rattle.network.specs.laws.IntegerParts.{up, down, le-parts, parts-le, parts-eq, up-neg, down-neg, sum-parts}
+use Rattle.network.specs.Integers.{gap, eqZ, down, up}
+use Rattle.network.specs.laws.IntegerParts.{le-parts, parts-le, parts-eq, up-neg, down-neg, sum-parts}
 
 -- the order is transitive
 pub ≤ℤ-trans : {a b c : ℤ} → a ≤ℤ b → b ≤ℤ c → a ≤ℤ c
@@ -35,10 +35,6 @@ unfolding up down
 pub plus-cancel : (a : ℤ) (k : ℕ) → a +ℤ pos k ≡ a → k ≡ 0
 unfolding up down
 plus-cancel a k e = omega (arith, simp e at (sum-parts a (pos k)))
-
--- b − a, where a ≤ b
-unfoldable pub gap : ℤ → ℤ → ℕ
-gap a b = up b + down a - (up a + down b)
 
 -- the greater is the smaller and the gap
 pub gap-is : {a b : ℤ} → a ≤ℤ b → b ≡ a +ℤ pos (gap a b)

@@ -11,7 +11,8 @@ use lib.ListN.{length, getD}
 use Rattle.network.specs.Sums.{all, upto}
 use Rattle.network.specs.Network.{Limit, unlimited, limit, Arc}
 use Rattle.network.specs.Packed.{tail-at, head-at, kink-at, low-at, high-at, stride, kink-zero, flow-zero, low-none, high-none, raised, low-number, high-number, packs, inside, storable, low-of, high-of, arc-of, arc-at, arcs-to}
-use Rattle.network.specs.laws.IntegerParts.{up, down, parts-eq, up-neg, down-neg, sum-parts}
+use Rattle.network.specs.laws.IntegerParts.{parts-eq, up-neg, down-neg, sum-parts}
+use Rattle.network.specs.Integers.{down, up}
 use Rattle.network.specs.laws.Tests.{and-left, and-right}
 use Rattle.network.specs.laws.Indexed.{upto-first}
 

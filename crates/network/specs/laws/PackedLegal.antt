@@ -13,7 +13,8 @@ use lib.ListN.{List·getD-map}
 use Rattle.network.specs.Network.{unlimited, limit, finite, Arc, potential, integers, past-kink, legal-at, legal}
 use Rattle.network.specs.Packed.{kink-zero, flow-zero, low-none, high-none, low-of, high-of, arc-at}
 use Rattle.network.specs.Net.{at, Net, tail, head, kink, low, high, HardHigh, HardLow, stands, asks}
-use Rattle.network.specs.laws.IntegerParts.{up, down, sum-parts, up-neg, down-neg, min-parts}
+use Rattle.network.specs.laws.IntegerParts.{sum-parts, up-neg, down-neg, min-parts}
+use Rattle.network.specs.Integers.{down, up}
 
 -- the parts of a difference of natural numbers
 pub less-parts : (a b : ℕ) → up (pos a -ℤ pos b) + b ≡ down (pos a -ℤ pos b) + a

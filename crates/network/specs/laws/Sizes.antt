@@ -6,7 +6,8 @@ use lib.IntN.{ℤ, pos, negsuc, negℤ, _+ℤ_, _*ℤ_, natAbs}
 use lib.Signed.{mag, natAbs-le}
 use mir.Syntax.{Width}
 use mir.Val.{SFits, hbits}
-use Rattle.network.specs.laws.IntegerParts.{up, down, sum-parts, min-parts}
+use Rattle.network.specs.laws.IntegerParts.{sum-parts, min-parts}
+use Rattle.network.specs.Integers.{down, up}
 
 -- the size in the parts
 pub size-parts : (a : ℤ) → natAbs a ≡ up a + down a

@@ -7,25 +7,25 @@ use Rattle.leb128.specs.Number.{decode, grouped}
 use Rattle.leb128.specs.Grammar.{within, both}
 use Rattle.leb128.specs.Source.{refusal, decoded-item, byte-item, raised, in-bytes}
 use Rattle.leb128.specs.Walk.{checked, led, followed, walk}
-use Rattle.leb128.specs.Format.{Outcome, same, complete, walk-bytes, made, reading, answered}
-use Rattle.leb128.specs.Format.Outcome.{wrote, refused}
+use Rattle.leb128.specs.Format.{Result, same, complete, walk-bytes, made, reading}
+use Rattle.leb128.specs.Format.Result.{elements, refused}
 use Rattle.sheet.specs.Refusals.{separations-crossed}
-use Rattle.sheet.specs.Limits.{magic, max-numbers}
+use Rattle.sheet.specs.Limits.{magic}
 use Rattle.sheet.specs.Grammar.{crossed, separation, separations, layers, edge, edges, sheet}
 
--- the outcome of reading these bytes behind the opening into a slice of 2,559 numbers
-read-behind : List ℕ → Outcome
-unfolding decode grouped within both crossed separation separations layers edge edges sheet decoded-item byte-item raised in-bytes checked led followed walk same complete walk-bytes made reading answered
-read-behind bytes = answered max-numbers (reading magic sheet (magic ++ bytes))
+-- what is read from these bytes behind the opening
+read-behind : List ℕ → Result
+unfolding decode grouped within both crossed separation separations layers edge edges sheet decoded-item byte-item raised in-bytes checked led followed walk same complete walk-bytes made reading
+read-behind bytes = reading magic sheet (magic ++ bytes)
 
 -- two bytes are too few
-ended : answered max-numbers (reading magic sheet (0x53 ∷ 0x50 ∷ [])) ≡ refused (refusal input-ended 2)
-unfolding same walk-bytes complete made reading answered
+ended : reading magic sheet (0x53 ∷ 0x50 ∷ []) ≡ refused (refusal input-ended 2)
+unfolding same walk-bytes complete made reading
 ended = refl
 
 -- another opening
-other-magic : answered max-numbers (reading magic sheet (0x53 ∷ 0x51 ∷ 0x31 ∷ [])) ≡ refused (refusal other-opening 0)
-unfolding same walk-bytes complete made reading answered
+other-magic : reading magic sheet (0x53 ∷ 0x51 ∷ 0x31 ∷ []) ≡ refused (refusal other-opening 0)
+unfolding same walk-bytes complete made reading
 other-magic = refl
 
 -- 80 00 is not the fewest bytes
@@ -57,13 +57,13 @@ extra = refl
 first : List ℕ
 first = 0x05 ∷ 0x02 ∷ 0x02 ∷ 0x01 ∷ 0x00 ∷ 0x01 ∷ 0x02 ∷ 0x01 ∷ 0x01 ∷ 0x01 ∷ 0x00 ∷ 0x01 ∷ 0x02 ∷ 0x01 ∷ 0x00 ∷ []
 
--- it has fifteen numbers
-first-read : read-behind first ≡ wrote 15
+-- it is fifteen numbers
+first-read : read-behind first ≡ elements (5 ∷ 2 ∷ 2 ∷ 1 ∷ 0 ∷ 1 ∷ 2 ∷ 1 ∷ 1 ∷ 1 ∷ 0 ∷ 1 ∷ 2 ∷ 1 ∷ 0 ∷ [])
 unfolding read-behind first
 first-read = refl
 
 -- FF 1F is 4,095
-widest : read-behind (0xff ∷ 0x1f ∷ 0x01 ∷ 0x01 ∷ 0x00 ∷ []) ≡ wrote 4
+widest : read-behind (0xff ∷ 0x1f ∷ 0x01 ∷ 0x01 ∷ 0x00 ∷ []) ≡ elements (4095 ∷ 1 ∷ 1 ∷ 0 ∷ [])
 unfolding read-behind
 widest = refl
 
