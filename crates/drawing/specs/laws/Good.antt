@@ -3,7 +3,7 @@ use Prim.Native.Nat.{ℕ, zero, suc, _+_, _-_, _*_, _≤_, _<_}
 use mathlib.Core.List.{List}
 use lib.Dec.{T}
 use lib.ListN.{length, getD, drop}
-use Rattle.sheet.specs.Limits.{max-width, max-layers, max-separation, max-edges, max-kind}
+use Rattle.sheet.specs.Limits.{max-width, max-layers, max-layer-nodes, max-separation, max-edges, max-kind}
 use Rattle.sheet.specs.Layout.{width-at, layers-at, first-layer-at, nodes-at, separations-at, separation-stride, minimum-at, maximum-at, edge-count-at, edges-at, edge-stride, edge-layer-at, edge-upper-at, edge-lower-at, edge-kind-at, layer-size, next-layer, behind-layers}
 use Rattle.drawing.specs.Sheet.{node-at, first-nodes}
 use Rattle.drawing.specs.Proper.{not-crossed}
@@ -22,6 +22,7 @@ GoodPairs (suc m) s = GoodPair s × GoodPairs m (drop separation-stride s)
 -- a layer that starts at node v and whose numbers are the first of s
 pub record GoodLayer (n v : ℕ) (s : List ℕ) : Type 0 where
   pub some : 1 ≤ getD s nodes-at 0
+  pub few : getD s nodes-at 0 ≤ max-layer-nodes
   pub room : v + getD s nodes-at 0 ≤ n
   pub there : layer-size (getD s nodes-at 0) ≤ length s
   pub pairs : GoodPairs (getD s nodes-at 0 - 1) (drop separations-at s)
@@ -31,10 +32,11 @@ abbrev pub GoodLayers : ℕ → ℕ → ℕ → List ℕ → Type 0
 GoodLayers n zero v s = Unit
 GoodLayers n (suc k) v s = GoodLayer n v s × GoodLayers n k (v + getD s nodes-at 0) (next-layer s)
 
--- an edge whose numbers are the first of s: it joins two layers, and its ends are nodes
+-- an edge whose numbers are the first of s: it joins two layers, its upper end is a node of its layer, its lower end a node
 pub record GoodEdge (n : ℕ) (first s : List ℕ) : Type 0 where
   pub layer : (1 ≤ getD s edge-layer-at 0) × (getD s edge-layer-at 0 < length first)
   pub positions : (1 ≤ getD s edge-upper-at 0) × (1 ≤ getD s edge-lower-at 0)
+  pub inside : node-at first (getD s edge-layer-at 0) (getD s edge-upper-at 0) < getD first (getD s edge-layer-at 0) 0
   pub upper : node-at first (getD s edge-layer-at 0) (getD s edge-upper-at 0) < n
   pub lower : node-at first (getD s edge-layer-at 0 + 1) (getD s edge-lower-at 0) < n
   pub kind : getD s edge-kind-at 0 ≤ max-kind

@@ -61,6 +61,14 @@ pub last-first-node : (k v : ℕ) (s : List ℕ) → getD (first-nodes k v s) k 
 last-first-node zero v s = omega arith
 last-first-node (suc k) v s = omega (arith, last-first-node k (v + getD s nodes-at 0) (next-layer s))
 
+-- behind the nodes of layer j stand those of the next one
+next-first : (k v : ℕ) (s : List ℕ) (j : ℕ) → j < k
+    → getD (first-nodes k v s) j 0 + getD (node-counts k s) j 0 ≡ getD (first-nodes k v s) (suc j) 0
+next-first zero v s j h = absurd (omega arith)
+next-first (suc zero) v s zero h = refl
+next-first (suc (suc k)) v s zero h = refl
+next-first (suc k) v s (suc j) h = next-first k (v + getD s nodes-at 0) (next-layer s) j (omega arith)
+
 -- the nodes of layer j are among the first n
 layer-ends : (n k v : ℕ) (s : List ℕ) → GoodLayers n k v s → (j : ℕ) → j < k
     → getD (first-nodes k v s) j 0 + getD (node-counts k s) j 0 ≤ n
@@ -88,6 +96,7 @@ good-layers n (suc k) room v counts {next} {s} h a =
       good = (
         record {
           some = l .0;
+          few = omega arith;
           room = omega arith;
           there = b .there;
           pairs = good-pairs (c - 1) (layers k (room - c) (counts ++ c ∷ []) next) (o .rest);
@@ -97,8 +106,10 @@ good-layers n (suc k) room v counts {next} {s} h a =
       rest = rw append-assoc at (others .rest);
     }
 
--- the edges, where the nodes of each layer are among the first n
-module _ (n : ℕ) (first counts : List ℕ) (long : length first ≡ suc (length counts)) (ends : (j : ℕ) → j < length counts → getD first j 0 + getD counts j 0 ≤ n) where
+-- the edges, where the nodes of each layer stand before those of the next and are among the first n
+module _ (n : ℕ) (first counts : List ℕ) (long : length first ≡ suc (length counts))
+    (next : (j : ℕ) → j < length counts → getD first j 0 + getD counts j 0 ≡ getD first (suc j) 0)
+    (ends : (j : ℕ) → j < length counts → getD first j 0 + getD counts j 0 ≤ n) where
   -- m edges are good, and all of their numbers are there
   good-edges : (m : ℕ) {s : List ℕ} → Accepts (edges m counts) s → (edge-stride * m ≤ length s) × GoodEdges n first m s
   unfolding edges edge
@@ -127,6 +138,9 @@ module _ (n : ℕ) (first counts : List ℕ) (long : length first ≡ suc (lengt
           record {
             layer = (l1 .0, omega (arith, l1 .0, l1 .1));
             positions = (rw (← e1) (l2 .0), rw (← e2) (l3 .0));
+            inside =
+                let behind : suc (r - 1) ≡ r = omega (arith, l1 .0) in
+                omega (arith, l2 .0, l2 .1, e1, next (r - 1) (omega (arith, l1 .0, l1 .1)) ∙ ap (λ (j : ℕ). getD first j 0) behind);
             upper = omega (arith, l1 .0, l1 .1, l2 .0, l2 .1, e1, ends (r - 1) (omega (arith, l1 .0, l1 .1)));
             lower = rw last (omega (arith, l1 .0, l1 .1, l3 .0, l3 .1, e2, ends r (omega (arith, l1 .0, l1 .1))));
             kind = rw (← e3) (l4 .1);
@@ -151,6 +165,7 @@ accepts-good {s} n h a =
     let m : ℕ = getD (behind-layers k s2) edge-count-at 0 in
     let some = within-limits 0 max-edges m (total .meets) in
     let e = good-edges n (first-nodes k 0 s2) (node-counts k s2) (first-nodes-length k 0 s2 ∙ ap suc (sym (node-counts-length k s2)))
+    (λ j i. next-first k 0 s2 j (omega (arith, node-counts-length k s2)))
     (λ j i. layer-ends n k 0 s2 (l .good) j (omega (arith, node-counts-length k s2))) m (total .rest) in
     record {
       head = omega (arith, width .there, count .there);
