@@ -3,8 +3,8 @@
 use mathlib.Core.List.{List, [], _∷_, _++_, map, flatMap}
 use Prim.Native.Nat.{ℕ, zero, suc, _+_}
 use lib.ListN.{length}
-use lib.IntN.{ℤ, pos, negsuc, negℤ}
-use Rattle.network.specs.Network.{unlimited, limit, Arc, Network}
+use lib.IntN.{pos, negsuc, negℤ}
+use Rattle.network.specs.Network.{unlimited, limit, Arc, Network, upper-bound}
 use Rattle.drawing.specs.Sheet.{Pair, Layer, Edge, Sheet}
 
 -- an edge between two nodes, by its kind: a plain one costs its length, a straight one allows none
@@ -15,11 +15,6 @@ edge-arc-between (suc kind) u v = record { tail = u; head = v; kink = pos 0; low
 -- the arc of an edge; its flow is the pull
 abbrev pub edge-arc : Edge → Arc
 edge-arc e = edge-arc-between (e .kind) (e .upper) (e .lower)
-
--- the head is at most k right of the tail; the flow is a push, which drives the head to smaller and the tail to greater
--- coordinates
-abbrev pub upper-bound : ℕ → ℕ → ℤ → Arc
-upper-bound u v k = record { tail = u; head = v; kink = k; low = limit (pos 0); high = unlimited }
 
 -- the arc of a minimum separation
 abbrev pub minimum-arc : Pair → Arc

@@ -1,11 +1,12 @@
 -- Document 01, "Drawing and total".
-use Prim.Native.Nat.{ℕ, zero, suc, _+_, _-_, _≤_}
+use Prim.Native.Nat.{ℕ, zero, suc, _+_, _-_}
 use mathlib.Core.Path.{_≡_}
 use mathlib.Core.Bool.{Bool, true, _&&_}
 use mathlib.Core.List.{List}
 use lib.Dec.{T, leb, eqb}
 use lib.ListN.{length, getD}
 use Rattle.network.specs.Sums.{all, sumℕ}
+use Rattle.network.specs.Least.{LeastOf, LeftmostOf}
 use Rattle.drawing.specs.Sheet.{Pair, Edge, Sheet}
 
 -- the coordinate (place) of node v
@@ -53,12 +54,11 @@ edge-length p e = (coordinate p (e .lower) - coordinate p (e .upper)) + (coordin
 unfoldable pub total-length : Sheet → List ℕ → ℕ
 total-length S p = sumℕ (edge-length p) (S .edges)
 
--- every drawing has at least this one's total
-pub record LeastDrawing (S : Sheet) (p : List ℕ) : Type 0 where
-  pub drawing : Drawing S p
-  pub least : (q : List ℕ) → Drawing S q → total-length S p ≤ total-length S q
+-- demand 3: every other drawing of that sheet has at least as large a total
+abbrev pub LeastDrawing : Sheet → List ℕ → Type 0
+LeastDrawing S = LeastOf (Drawing S) (total-length S)
 
--- the drawing that is returned: and where another's total is equal, each node's coordinate in it is at least as large
-pub record LeftmostDrawing (S : Sheet) (p : List ℕ) : Type 0 where
-  pub is-least : LeastDrawing S p
-  pub leftmost : (q : List ℕ) → Drawing S q → total-length S q ≡ total-length S p → (v : ℕ) → coordinate p v ≤ coordinate q v
+-- the drawing that is returned; demand 3: and in every other one of equal total each node (mark) stands where it does here or
+-- further right
+abbrev pub LeftmostDrawing : Sheet → List ℕ → Type 0
+LeftmostDrawing S = LeftmostOf (Drawing S) (total-length S)

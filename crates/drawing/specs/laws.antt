@@ -15,7 +15,6 @@ pub mod Shift
 pub mod LeastAssignment
 pub mod Constraints
 pub mod TightConstraints
-pub mod LeastSolution
 pub mod Held
 pub mod HeldSearch
 pub mod HeldOnly

@@ -1,5 +1,6 @@
 pub mod Integers
 pub mod Sums
+pub mod Least
 pub mod Tested
 pub mod Network
 pub mod Flows

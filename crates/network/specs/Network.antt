@@ -56,6 +56,11 @@ pub record Network : Type 0 where
   pub nodes : ℕ
   pub arcs : List Arc
 
+-- the head is at most k right of the tail; the flow is a push, which drives the head to smaller and the tail to greater
+-- coordinates
+abbrev pub upper-bound : ℕ → ℕ → ℤ → Arc
+upper-bound u v k = record { tail = u; head = v; kink = k; low = limit (pos 0); high = unlimited }
+
 -- where an arc is d past its kink: the side is not forbidden
 abbrev pub legal-at : Arc → ℤ → Bool
 legal-at a (pos zero) = true

@@ -8,8 +8,11 @@ pub mod ArcSlack
 pub mod ByParts
 pub mod Duality
 pub mod Unique
+pub mod LeftmostUnique
+pub mod Models
 pub mod NoSolution
 pub mod Certified
+pub mod UpperBounds
 pub mod Differences
 pub mod PackedBack
 pub mod Hanging

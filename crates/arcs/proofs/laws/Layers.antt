@@ -8,11 +8,11 @@ use lib.ListN.{length, getD, drop, length-append}
 use lib.Seq.{drop-drop}
 use Rattle.sheet.specs.Limits.{max-nodes}
 use Rattle.sheet.specs.Layout.{first-layer-at, nodes-at, separations-at, layer-size}
-use Rattle.network.specs.Network.{Arc}
+use Rattle.network.specs.Network.{Arc, upper-bound}
 use Rattle.network.specs.Packed.{stride, kink-zero, flow-zero, high-none, packs}
 use Rattle.network.specs.laws.PackedBack.{packs-length}
 use Rattle.drawing.specs.Sheet.{pairs-of, layers-of}
-use Rattle.drawing.specs.Arcs.{upper-bound, separation-arcs, layer-arcs}
+use Rattle.drawing.specs.Arcs.{separation-arcs, layer-arcs}
 use Rattle.drawing.specs.laws.Good.{GoodLayer}
 use Rattle.drawing.specs.laws.SameDrawings.{length-pairs}
 use Rattle.drawing.specs.laws.Terms.{layer-length}

@@ -7,7 +7,8 @@ use native.Mathlib.Omega.{arith}
 use lib.IntN.{ℤ, pos, negℤ}
 use lib.ListN.{length, set, length-set}
 use Rattle.network.specs.Packed.{tail-at, head-at, kink-at, low-at, high-at, stride, kink-zero, flow-zero, low-none, high-none, raised, packs}
-use Rattle.drawing.specs.Arcs.{edge-arc-between, upper-bound, maximum-arc}
+use Rattle.drawing.specs.Arcs.{edge-arc-between, maximum-arc}
+use Rattle.network.specs.Network.{upper-bound}
 use Rattle.arcs.specs.inside.Filling.{Filling, Adds}
 use Rattle.arcs.proofs.laws.Filling.{filling-begin, filling-store}
 

@@ -8,14 +8,14 @@ use lib.Dec.{T, ltb, leb, ltb→lt, lt→ltb, leb→le}
 use lib.IntN.{ℤ, pos, negsuc, natAbs, negℤ}
 use lib.ListN.{length, getD, drop}
 use Rattle.network.specs.Sums.{all}
-use Rattle.network.specs.Network.{Limit, unlimited, limit, Arc}
+use Rattle.network.specs.Network.{Limit, unlimited, limit, Arc, upper-bound}
 use Rattle.network.specs.Packed.{kink-zero, inside, storable}
 use Rattle.network.specs.laws.Sizes.{size-neg}
 use Rattle.network.specs.laws.Tests.{and-left, and-right, and-both, all-map, all-append, all-image, all-flat}
 use Rattle.sheet.specs.Limits.{max-separation, max-kind}
 use Rattle.sheet.specs.Layout.{layers-at, first-layer-at, nodes-at, separations-at, next-layer}
 use Rattle.drawing.specs.Sheet.{Pair, Layer, Edge, Sheet, pairs-of, layers-of, first-nodes, sheet-of}
-use Rattle.drawing.specs.Arcs.{edge-arc-between, edge-arc, upper-bound, minimum-arc, maximum-arc, separation-arcs, layer-arcs, network}
+use Rattle.drawing.specs.Arcs.{edge-arc-between, edge-arc, minimum-arc, maximum-arc, separation-arcs, layer-arcs, network}
 use Rattle.drawing.specs.Proper.{not-crossed, proper-edge, proper-pair, Proper}
 use Rattle.drawing.specs.laws.SameDrawings.{length-pairs}
 

@@ -2,83 +2,23 @@
 use mathlib.Core.Path.{_≡_, refl, _∙_, ap, ap₂}
 use mathlib.Core.List.{List, [], _∷_, flatMap}
 use mathlib.Core.Bool.{true, _&&_, and-true}
-use Prim.Native.Nat.{ℕ, zero, suc, _+_, _-_, _≤_}
+use Prim.Native.Nat.{ℕ, zero, suc, _+_, _-_}
 use native.Mathlib.Omega.{arith}
 use lib.Dec.{T, leb, leb→le, le→leb, eqb, eqb→eq}
-use lib.ListN.{length, List·getD-map}
-use lib.IntN.{ℤ, pos, negsuc, negℤ, _+ℤ_, _-ℤ_}
-use lib.Signed.{_≤ℤ_, leZ-yes}
+use lib.ListN.{length}
+use lib.IntN.{ℤ, pos, negsuc, negℤ, _+ℤ_}
 use borrow.Author.Tests.{eq-eqb}
-use Rattle.network.specs.laws.IntegerParts.{le-parts, parts-le, sum-parts, up-neg, down-neg, min-parts}
+use Rattle.network.specs.laws.IntegerParts.{up-neg, down-neg, min-parts}
 use Rattle.network.specs.Integers.{down, up}
 use Rattle.network.specs.Sums.{sum, all}
 use Rattle.network.specs.laws.Tests.{test-ext, all-ext, all-append, all-flat}
 use Rattle.network.specs.laws.Sums.{sum-append, sum-flat, sum-null}
-use Rattle.network.specs.Network.{Arc, integers, potential, past-kink, legal-at, cost-at, legal, cost}
+use Rattle.network.specs.Network.{Arc, integers, past-kink, legal-at, cost-at, legal, cost, upper-bound}
 use Rattle.network.specs.laws.ArcSlack.{costless}
+use Rattle.network.specs.laws.UpperBounds.{past-kink-parts, upper-bound-at, at-upper-bound}
 use Rattle.drawing.specs.Sheet.{Pair, Layer}
 use Rattle.drawing.specs.Drawing.{coordinate, within-maximum, separated, aligned}
-use Rattle.drawing.specs.Arcs.{edge-arc-between, upper-bound, minimum-arc, maximum-arc, separation-arcs, layer-arcs}
-
--- a node's potential, under natural numbers, is its coordinate
-pub integer-coordinate : (p : List ℕ) (v : ℕ) → potential (integers p) v ≡ pos (coordinate p v)
-integer-coordinate p v = List·getD-map pos p v 0
-
--- its part above 0 is the coordinate
-up-coordinate : (p : List ℕ) (v : ℕ) → up (potential (integers p) v) ≡ coordinate p v
-unfolding up
-up-coordinate p v = ap up (integer-coordinate p v)
-
--- its part below 0 is none
-down-coordinate : (p : List ℕ) (v : ℕ) → down (potential (integers p) v) ≡ 0
-unfolding down
-down-coordinate p v = ap down (integer-coordinate p v)
-
--- an upper bound that is legal is not past its kink
-upper-bound-le : (u v : ℕ) (k d : ℤ) → T (legal-at (upper-bound u v k) d) → d ≤ℤ pos 0
-upper-bound-le u v k (pos zero) t = leZ-yes tt
-upper-bound-le u v k (pos (suc n)) t = absurd t
-upper-bound-le u v k (negsuc n) t = leZ-yes tt
-
--- an upper bound that is not past its kink is legal
-le-upper-bound : (u v : ℕ) (k d : ℤ) → d ≤ℤ pos 0 → T (legal-at (upper-bound u v k) d)
-le-upper-bound u v k (pos zero) h = tt
-le-upper-bound u v k (pos (suc n)) h = absurd (positive n (leb→le (suc n) 0 (h .le)))
-  where
-    positive : (n : ℕ) → suc n ≤ 0 → ⊥
-    positive n h = omega arith
-le-upper-bound u v k (negsuc n) h = tt
-
-module _ (p : List ℕ) (u v : ℕ) where
-  -- how far an arc from u to v is past its kink, as an equation of natural numbers
-  pub past-kink-parts : (k : ℤ)
-      → up (past-kink (integers p) (upper-bound u v k)) + (coordinate p u + up k) ≡ down (past-kink (integers p) (upper-bound u v k)) + (coordinate p v + down k)
-  past-kink-parts k = omega (
-    arith,
-    sum-parts (potential (integers p) v -ℤ potential (integers p) u) (negℤ k),
-    sum-parts (potential (integers p) v) (negℤ (potential (integers p) u)),
-    up-neg (potential (integers p) u),
-    down-neg (potential (integers p) u),
-    up-neg k,
-    down-neg k,
-    up-coordinate p u,
-    down-coordinate p u,
-    up-coordinate p v,
-    down-coordinate p v,
-  )
-
-  -- a legal upper bound bounds its head's coordinate by its tail's
-  upper-bound-coordinate : (k : ℤ) → T (legal (integers p) (upper-bound u v k)) → coordinate p v + down k ≤ coordinate p u + up k
-  unfolding up down
-  upper-bound-coordinate k t =
-      omega (arith, past-kink-parts k, le-parts (upper-bound-le u v k (past-kink (integers p) (upper-bound u v k)) t))
-
-  -- and an upper bound that the coordinates meet is legal
-  coordinate-upper-bound : (k : ℤ) → coordinate p v + down k ≤ coordinate p u + up k → T (legal (integers p) (upper-bound u v k))
-  unfolding up down
-  coordinate-upper-bound k h =
-      le-upper-bound u v k (past-kink (integers p) (upper-bound u v k))
-      (parts-le (past-kink (integers p) (upper-bound u v k)) (pos 0) (omega (arith, past-kink-parts k)))
+use Rattle.drawing.specs.Arcs.{edge-arc-between, minimum-arc, maximum-arc, separation-arcs, layer-arcs}
 
 module _ (p : List ℕ) where
   -- the arc of a minimum separation tests the minimum
@@ -87,8 +27,8 @@ module _ (p : List ℕ) where
   unfolding up down
   minimum-is x = test-ext (legal (integers p) (minimum-arc x)) (leb (coordinate p (x .left) + x .minimum) (coordinate p (suc (x .left))))
       (λ t. le→leb (coordinate p (x .left) + x .minimum) (coordinate p (suc (x .left)))
-      (omega (arith, upper-bound-coordinate p (suc (x .left)) (x .left) (negℤ (pos (x .minimum))) t, up-neg (pos (x .minimum)), down-neg (pos (x .minimum)))))
-      (λ t. coordinate-upper-bound p (suc (x .left)) (x .left) (negℤ (pos (x .minimum)))
+      (omega (arith, upper-bound-at p (suc (x .left)) (x .left) (negℤ (pos (x .minimum))) t, up-neg (pos (x .minimum)), down-neg (pos (x .minimum)))))
+      (λ t. at-upper-bound p (suc (x .left)) (x .left) (negℤ (pos (x .minimum)))
       (omega (arith, leb→le (coordinate p (x .left) + x .minimum) (coordinate p (suc (x .left))) t, up-neg (pos (x .minimum)), down-neg (pos (x .minimum)))))
 
   -- the arc of a maximum separation tests the maximum, where one is set
@@ -103,8 +43,8 @@ module _ (p : List ℕ) where
       free (pos (suc n)) = refl
       free (negsuc n) = refl
   maximum-is (suc maximum) v = test-ext (legal (integers p) (maximum-arc (suc maximum) v)) (leb (coordinate p (suc v)) (coordinate p v + suc maximum))
-      (λ t. le→leb (coordinate p (suc v)) (coordinate p v + suc maximum) (omega (arith, upper-bound-coordinate p v (suc v) (pos (suc maximum)) t)))
-      (λ t. coordinate-upper-bound p v (suc v) (pos (suc maximum)) (omega (arith, leb→le (coordinate p (suc v)) (coordinate p v + suc maximum) t)))
+      (λ t. le→leb (coordinate p (suc v)) (coordinate p v + suc maximum) (omega (arith, upper-bound-at p v (suc v) (pos (suc maximum)) t)))
+      (λ t. at-upper-bound p v (suc v) (pos (suc maximum)) (omega (arith, leb→le (coordinate p (suc v)) (coordinate p v + suc maximum) t)))
 
   -- the two arcs of a pair test its separations
   separation-is : (x : Pair) → all (legal (integers p)) (separation-arcs x) ≡ separated p x
@@ -145,14 +85,14 @@ module _ (p : List ℕ) where
     unfolding up down
     left-boundary v =
         test-ext (legal (integers p) (upper-bound v ground (pos 0))) true (λ t. tt)
-        (λ t. coordinate-upper-bound p v ground (pos 0) (omega arith))
+        (λ t. at-upper-bound p v ground (pos 0) (omega arith))
 
     -- a right boundary tests whether a coordinate is within the width
     right-boundary : (v : ℕ) → legal (integers p) (upper-bound ground v (pos width)) ≡ leb (coordinate p v) width
     unfolding up down
     right-boundary v = test-ext (legal (integers p) (upper-bound ground v (pos width))) (leb (coordinate p v) width)
-        (λ t. le→leb (coordinate p v) width (omega (arith, upper-bound-coordinate p ground v (pos width) t)))
-        (λ t. coordinate-upper-bound p ground v (pos width) (omega (arith, leb→le (coordinate p v) width t)))
+        (λ t. le→leb (coordinate p v) width (omega (arith, upper-bound-at p ground v (pos width) t)))
+        (λ t. at-upper-bound p ground v (pos width) (omega (arith, leb→le (coordinate p v) width t)))
 
     -- the arcs of a layer test its separations, and whether its last node is within the width
     pub layer-is : (l : Layer)

@@ -10,14 +10,14 @@ use lib.ListN.{length, getD, drop}
 use lib.Signed.{_≤ℤ_, leZ-yes}
 use Rattle.leb128.specs.laws.Cases.{lt-or-le, eq-or-ne}
 use Rattle.network.specs.Sums.{all}
-use Rattle.network.specs.Network.{Arc, Feasible, integers}
+use Rattle.network.specs.Network.{Arc, Feasible, integers, upper-bound}
 use Rattle.network.specs.Integers.{up}
 use Rattle.network.specs.laws.Tests.{and-left}
 use Rattle.network.specs.laws.Hanging.{Hook, Hangs, hook-first, hook-second, natural-potentials}
 use Rattle.sheet.specs.Layout.{layers-at, first-layer-at, nodes-at, separations-at, separation-stride, minimum-at, maximum-at, next-layer}
 use Rattle.drawing.specs.Sheet.{Pair, Layer, pairs-of, layers-of, first-nodes, sheet-of}
 use Rattle.drawing.specs.Drawing.{Drawing}
-use Rattle.drawing.specs.Arcs.{edge-arc, upper-bound, minimum-arc, maximum-arc, separation-arcs, layer-arcs, network}
+use Rattle.drawing.specs.Arcs.{edge-arc, minimum-arc, maximum-arc, separation-arcs, layer-arcs, network}
 use Rattle.drawing.specs.laws.SameDrawings.{feasible-drawing}
 
 -- a number that is taken away is not positive

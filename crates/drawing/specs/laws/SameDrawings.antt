@@ -1,6 +1,6 @@
 -- Document 01's drawings and totals are those of the network, and so are least and leftmost: each arc tests and costs
 -- what document 01 says.
-use mathlib.Core.Path.{_≡_, refl, sym, _∙_, ap, ap₂, subst, subst₂}
+use mathlib.Core.Path.{_≡_, refl, sym, _∙_, ap, ap₂, subst}
 use mathlib.Core.List.{List, [], _∷_, map, flatMap}
 use mathlib.Core.Bool.{Bool, _&&_}
 use mathlib.Core.Logic.{⊎-elim}
@@ -10,7 +10,6 @@ use native.Mathlib.Omega.{arith}
 use lib.Dec.{T, leb, leb→le, le→leb}
 use lib.ListN.{length, getD, drop, length-map, List·getD-eq-default}
 use lib.IntN.{ℤ, pos, _+ℤ_, +ℤ-idr}
-use lib.Signed.{_≤ℤ_}
 use Rattle.leb128.specs.laws.Cases.{lt-or-le, eq-or-ne}
 use Rattle.network.specs.Sums.{sum, all}
 use Rattle.network.specs.laws.Tests.{and-left, and-right, and-both, all-ext, all-and, all-map, all-append, all-flat, all-image}
@@ -22,7 +21,9 @@ use Rattle.drawing.specs.Sheet.{Pair, Layer, Sheet, pairs-of, layers-of,
 use Rattle.sheet.specs.Layout.{layers-at, first-layer-at, nodes-at, separations-at, separation-stride, minimum-at, maximum-at, next-layer}
 use Rattle.drawing.specs.Drawing.{coordinate, within-maximum, separated, edge-aligned, Drawing, edge-length, total-length, LeastDrawing, LeftmostDrawing}
 use Rattle.drawing.specs.Arcs.{edge-arc, layer-arcs, network}
-use Rattle.drawing.specs.laws.ArcTests.{integer-coordinate, edge-is, layer-is, edge-cost, layer-cost}
+use Rattle.network.specs.laws.Integers.{+ℤ-none}
+use Rattle.network.specs.laws.Models.{Models, models-least, models-leftmost}
+use Rattle.drawing.specs.laws.ArcTests.{edge-is, layer-is, edge-cost, layer-cost}
 
 -- a layer's pairs have their separations, and its last node is within the width
 abbrev layer-test : ℕ → List ℕ → Layer → Bool
@@ -169,32 +170,21 @@ module _ (s p : List ℕ) where
         straight = and-left (all (edge-aligned p) (S .edges)) (all (layer-test (S .width) p) (S .layers)) t;
       }
 
--- the order of natural numbers is that of the integers
-nat-le : {a b : ℕ} → pos a ≤ℤ pos b → a ≤ b
-nat-le {a} {b} h = leb→le a b (h .le)
+-- the network of a sheet models its drawings and their totals
+drawings-modelled : (s : List ℕ) → Models (Drawing (sheet-of s)) (total-length (sheet-of s)) (network (sheet-of s)) (pos 0)
+drawings-modelled s = record {
+  feasible = drawing-feasible (sheet-of s);
+  candidate = feasible-drawing s;
+  totals = λ q d. sym (same-total (sheet-of s) q d) ∙ sym (+ℤ-none (total (network (sheet-of s)) (integers q)));
+}
 
 -- what is least in the network is a least drawing
 pub least-drawing : (s p : List ℕ) → Least (network (sheet-of s)) (integers p) → LeastDrawing (sheet-of s) p
-unfolding network
-least-drawing s p h =
-    let d : Drawing (sheet-of s) p = feasible-drawing s p (h .feasible) in
-    record {
-      drawing = d;
-      least =
-          λ q dq. nat-le
-          (subst₂ _≤ℤ_ (same-total (sheet-of s) p d) (same-total (sheet-of s) q dq)
-          (h .least (integers q) (drawing-feasible (sheet-of s) q dq)));
-    }
+least-drawing s = models-least (Drawing (sheet-of s)) (total-length (sheet-of s)) (drawings-modelled s)
 
 -- what is leftmost among the least in the network is the leftmost least drawing
 pub leftmost-drawing : (s p : List ℕ) → LeftmostLeast (network (sheet-of s)) (integers p) → LeftmostDrawing (sheet-of s) p
-leftmost-drawing s p h =
-    let m : LeastDrawing (sheet-of s) p = least-drawing s p (h .is-least) in
-    record {
-      is-least = m;
-      leftmost = λ q dq e v. nat-le (subst₂ _≤ℤ_ (integer-coordinate p v) (integer-coordinate q v)
-          (h .leftmost (integers q) (drawing-feasible (sheet-of s) q dq) (same-total (sheet-of s) q dq ∙ ap pos e ∙ sym (same-total (sheet-of s) p (m .drawing))) v));
-    }
+leftmost-drawing s = models-leftmost (Drawing (sheet-of s)) (total-length (sheet-of s)) (drawings-modelled s)
 
 -- with a list y that meets the rules: coordinates in complementary slackness, and leftmost among those, are the
 -- leftmost least drawing
@@ -211,5 +201,5 @@ complementary-leftmost s p y rule size t first =
     record {
       is-least = m;
       leftmost = λ q dq equal. first q (dq .size) (equal-tight N y (integers q) rule (drawing-feasible (sheet-of s) q dq)
-          (same-total (sheet-of s) q dq ∙ ap pos equal ∙ sym (same-total (sheet-of s) p (m .drawing)) ∙ e));
+          (same-total (sheet-of s) q dq ∙ ap pos equal ∙ sym (same-total (sheet-of s) p (m .candidate)) ∙ e));
     }

@@ -18,7 +18,7 @@ use Rattle.network.specs.laws.Tests.{not-not, and-left, and-right, and-both, al
 use Rattle.network.specs.laws.Sums.{sumℕ-ext}
 use Rattle.network.specs.Network.{potential, integers}
 use Rattle.drawing.specs.Assignment.{least-of, greatest-of, extent, within-maximumZ, separatedZ, alignedZ, edge-alignedZ, Assignment, edge-lengthZ, total-lengthZ, shifted}
-use Rattle.drawing.specs.laws.ArcTests.{integer-coordinate}
+use Rattle.network.specs.laws.UpperBounds.{integer-potential}
 use Rattle.drawing.specs.laws.Extents.{least-le, le-greatest, least-is, greatest-is}
 use Rattle.drawing.specs.Sheet.{Pair, Edge, Sheet}
 use Rattle.drawing.specs.Drawing.{coordinate, within-maximum, separated, aligned, edge-aligned, Drawing, edge-length, total-length}
@@ -171,19 +171,19 @@ module _ (p : List ℕ) where
   -- a drawing as integers: the test of a minimum separation
   minimum-is : (d u v : ℕ)
       → leZ (potential (integers p) u +ℤ pos d) (potential (integers p) v) ≡ leb (coordinate p u + d) (coordinate p v)
-  minimum-is d u v = rw (integer-coordinate p u, integer-coordinate p v)
+  minimum-is d u v = rw (integer-potential p u, integer-potential p v)
 
   -- the test of a maximum separation
   maximum-is : (maximum u v : ℕ)
       → within-maximumZ maximum (potential (integers p) u) (potential (integers p) v) ≡ within-maximum maximum (coordinate p u) (coordinate p v)
   maximum-is zero u v = refl
-  maximum-is (suc maximum) u v = rw (integer-coordinate p u, integer-coordinate p v)
+  maximum-is (suc maximum) u v = rw (integer-potential p u, integer-potential p v)
 
   -- the test of a straight edge
   aligned-is : (kind u v : ℕ)
       → alignedZ kind (potential (integers p) u) (potential (integers p) v) ≡ aligned kind (coordinate p u) (coordinate p v)
   aligned-is zero u v = refl
-  aligned-is (suc kind) u v = rw (integer-coordinate p u, integer-coordinate p v)
+  aligned-is (suc kind) u v = rw (integer-potential p u, integer-potential p v)
 
   -- the test of a pair
   separated-is : (n : Pair) → separatedZ (integers p) n ≡ separated p n
@@ -193,7 +193,7 @@ module _ (p : List ℕ) where
   -- the length of an edge
   length-is : (e : Edge) → edge-lengthZ (integers p) e ≡ edge-length p e
   unfolding up down
-  length-is e = rw (integer-coordinate p (e .lower), integer-coordinate p (e .upper)) (omega (
+  length-is e = rw (integer-potential p (e .lower), integer-potential p (e .upper)) (omega (
     arith,
     size-parts (pos (coordinate p (e .lower)) -ℤ pos (coordinate p (e .upper))),
     min-parts (pos (coordinate p (e .lower)) -ℤ pos (coordinate p (e .upper))),
@@ -222,9 +222,9 @@ module _ (S : Sheet) (p : List ℕ) where
         let W : ℤ = pos (S .width) in
         let least : ℤ = least-of (integers p) in
         let greatest : ℤ = greatest-of (integers p) in
-        let natural : (v : ℕ) → pos 0 ≤ℤ potential (integers p) v = λ v. rw (integer-coordinate p v) (leZ-yes (le→leb 0 (coordinate p v) zero-le)) in
+        let natural : (v : ℕ) → pos 0 ≤ℤ potential (integers p) v = λ v. rw (integer-potential p v) (leZ-yes (le→leb 0 (coordinate p v) zero-le)) in
         let fits : (v : ℕ) → coordinate p v ≤ S .width = inside-at (S .width) p (d .inside) in
-        let within : (v : ℕ) → potential (integers p) v ≤ℤ W = λ v. rw (integer-coordinate p v) (leZ-yes (le→leb (coordinate p v) (S .width) (fits v))) in
+        let within : (v : ℕ) → potential (integers p) v ≤ℤ W = λ v. rw (integer-potential p v) (leZ-yes (le→leb (coordinate p v) (S .width) (fits v))) in
         let low : pos 0 ≤ℤ least = least-is (λ z. pos 0 ≤ℤ z) (≤ℤ-refl (pos 0)) (integers p) natural in
         let high : greatest ≤ℤ W = greatest-is (λ z. z ≤ℤ W) (leZ-yes (le→leb 0 (S .width) zero-le)) (integers p) within in
         parts-le (extent (integers p)) W (omega (arith, le-parts low, le-parts high, sum-parts greatest (negℤ least), up-neg least, down-neg least));

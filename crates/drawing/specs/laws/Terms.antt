@@ -11,10 +11,10 @@ use lib.IntN.{ℤ, pos, _+ℤ_, +ℤ-idr}
 use Rattle.network.specs.Sums.{sum, all}
 use Rattle.network.specs.laws.Tests.{all-ext, all-append, all-image, all-flat}
 use Rattle.network.specs.laws.Sums.{sum-ext, sum-append, sum-image, sum-flat}
-use Rattle.network.specs.Network.{Arc}
+use Rattle.network.specs.Network.{Arc, upper-bound}
 use Rattle.network.specs.Flows.{Flow, flows}
 use Rattle.drawing.specs.Sheet.{Pair, Layer, Edge, Sheet}
-use Rattle.drawing.specs.Arcs.{edge-arc, upper-bound, minimum-arc, maximum-arc, separation-arcs, layer-arcs, network}
+use Rattle.drawing.specs.Arcs.{edge-arc, minimum-arc, maximum-arc, separation-arcs, layer-arcs, network}
 use Rattle.drawing.specs.Certificate.{EdgeTerm, PairTerm, LayerTerm, edge-terms, pair-terms, layer-term, layer-terms, certificate, last-node}
 
 -- the flow of an edge

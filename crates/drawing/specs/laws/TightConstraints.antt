@@ -13,18 +13,18 @@ use Rattle.network.specs.laws.IntegerParts.{le-parts, parts-le, up-neg, down-ne
 use Rattle.network.specs.Integers.{down, up, eqZ}
 use Rattle.network.specs.Sums.{all, below}
 use Rattle.network.specs.laws.Tests.{and-left, and-right, test-ext, all-ext, all-ext₂, all-append, all-flat}
-use Rattle.network.specs.Network.{Network, Feasible, integers, past-kink}
+use Rattle.network.specs.Network.{Network, Feasible, integers, past-kink, upper-bound}
 use Rattle.network.specs.Flows.{tight-at, tight, rules, bound as network-bound, complementary}
 use Rattle.network.specs.laws.Duality.{tight-equal, equal-tight, tight-feasible}
 use Rattle.drawing.specs.Sheet.{Sheet, sheet-of}
 use Rattle.drawing.specs.Drawing.{coordinate, Drawing, total-length}
 use Rattle.drawing.specs.Certificate.{EdgeTerm, PairTerm, LayerTerm, certificate, last-node, edge-limits, unset-limit, pair-limits, layer-limits, limits, balanced-at, meets-rules}
 use Rattle.drawing.specs.laws.Constraints.{Constraint, meets, opposite, unless, tightened, not-right, edge-constraints, minimum-constraint, maximum-constraints, pair-constraints, right-constraint, layer-constraints, constraints}
-use Rattle.drawing.specs.Arcs.{edge-arc-between, upper-bound, maximum-arc, network}
+use Rattle.drawing.specs.Arcs.{edge-arc-between, maximum-arc, network}
 use Rattle.drawing.specs.laws.Terms.{edge-flow, minimum-flow, maximum-flow, layer-flows, layer-all, network-all}
 use Rattle.drawing.specs.laws.SameRules.{same-rules, same-bound}
 use Rattle.drawing.specs.laws.SameDrawings.{drawing-feasible, same-total, feasible-drawing}
-use Rattle.drawing.specs.laws.ArcTests.{past-kink-parts}
+use Rattle.network.specs.laws.UpperBounds.{past-kink-parts}
 use Rattle.drawing.specs.laws.Judged.{Accepted}
 
 -- what a constraint that may be left out adds to a test of all

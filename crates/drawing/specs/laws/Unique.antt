@@ -2,11 +2,11 @@
 use mathlib.Core.Path.{_≡_, sym, _∙_}
 use mathlib.Core.List.{List, [], _∷_}
 use Prim.Native.Nat.{ℕ, _*_, _≤_}
-use native.Mathlib.Nat.{le-antisymm, le-trans, mul-le-mul}
+use native.Mathlib.Nat.{le-trans, mul-le-mul}
 use native.Mathlib.Omega.{arith}
 use lib.ListN.{length}
-use lib.Seq.{ext-getD}
 use Rattle.network.specs.Sums.{sumℕ}
+use Rattle.network.specs.laws.LeftmostUnique.{leftmost-one}
 use Rattle.sheet.specs.Limits.{max-width, max-edges}
 use Rattle.drawing.specs.Sheet.{Edge, Sheet}
 use Rattle.drawing.specs.Proper.{Proper}
@@ -16,9 +16,7 @@ use Rattle.drawing.specs.laws.SameDrawings.{inside-at}
 -- a sheet has one leftmost least drawing at most
 pub leftmost-unique : (S : Sheet) (p q : List ℕ) → LeftmostDrawing S p → LeftmostDrawing S q → p ≡ q
 leftmost-unique S p q a b =
-    let e : total-length S p ≡ total-length S q = le-antisymm (a .is-least .least q (b .is-least .drawing)) (b .is-least .least p (a .is-least .drawing)) in
-    ext-getD 0 p q (a .is-least .drawing .size ∙ sym (b .is-least .drawing .size))
-    (λ i h. le-antisymm (a .leftmost q (b .is-least .drawing) (sym e) i) (b .leftmost p (a .is-least .drawing) e i))
+    leftmost-one (Drawing S) (total-length S) p q (a .is-least .candidate .size ∙ sym (b .is-least .candidate .size)) a b
 
 -- lengths of at most w each add up to at most w for each edge
 sum-le : (f : Edge → ℕ) (w : ℕ) → ((e : Edge) → f e ≤ w) → (es : List Edge) → sumℕ f es ≤ length es * w

@@ -95,7 +95,7 @@ module _ {a : List ℕ} {c : Counts} (h : Holds a c) (flows nodes : List ℕ) (f
 
   -- each coordinate is at most the width
   small : (v : ℕ) → coordinate p v ≤ max-width
-  small v = omega (arith, inside-at (S .width) p (drawing-is .is-least .drawing .inside) v, proper h .width)
+  small v = omega (arith, inside-at (S .width) p (drawing-is .is-least .candidate .inside) v, proper h .width)
 
   -- so the places can be read off
   pub places-fit : Places nodes (c .nodes)
@@ -134,7 +134,7 @@ module _ {a : List ℕ} {c : Counts} (h : Holds a c) (flows nodes : List ℕ) (f
   bound-is =
       let tight : T (complementary (network S) y q) = subst (λ (N : Network). T (complementary N y q)) (meant-is h) (s .no-slack) in
       sym (same-bound S y) ∙ sym (tight-equal (network S) y q rules-met (potentials-leftmost .is-least .feasible) tight)
-      ∙ ap (total (network S)) (sym naturals) ∙ same-total S p (drawing-is .is-least .drawing)
+      ∙ ap (total (network S)) (sym naturals) ∙ same-total S p (drawing-is .is-least .candidate)
 
   module _ (p₀ p′ : List ℕ) (y₀ y′ : List ℤ) (places-enough : c .nodes ≤ length p₀) (list-enough : c .arcs ≤ length y₀)
       (ep : p′ ≡ filled (c .nodes) (place-at nodes) p₀) (ey : y′ ≡ filled (length flows) (number-at flows) y₀) where
@@ -170,7 +170,7 @@ module _ {a : List ℕ} {c : Counts} (h : Holds a c) (flows nodes : List ℕ) (f
         ∙ ap₂ (λ (l k : List ℕ). min u32-most (lengths-of l k))
         (ap (λ (k : ℕ). take k p′) (less-none (c .nodes) ∙ h .nodes-are) ∙ front)
         (ap (λ (k : ℕ). take k a) (less-none (stride * c .edges)) ∙ edges-front h)
-        ∙ drawing-total S p (proper h) (drawing-is .is-least .drawing)
+        ∙ drawing-total S p (proper h) (drawing-is .is-least .candidate)
 
     -- what the contract says
     pub returned : (r : ℕ) → r ≡ min u32-most (lengths-of (take (c .nodes - 0) p′) (take (stride * c .edges - 0) a))
@@ -183,7 +183,7 @@ module _ {a : List ℕ} {c : Counts} (h : Holds a c) (flows nodes : List ℕ) (f
           leftmost = subst (LeftmostDrawing S) (sym front) drawing-is;
           places-behind = ap (drop (S .nodes)) places-are ∙ drop-at p (drop (S .nodes) p₀) (S .nodes) (p-size ∙ h .nodes-are);
           total-is = t ∙ ap (total-length S) (sym front);
-          total-in = omega (arith, total-small S p (proper h) (drawing-is .is-least .drawing));
+          total-in = omega (arith, total-small S p (proper h) (drawing-is .is-least .candidate));
           list-size =
               ap length list-is
               ∙ length-append y (drop (certificate-size S) y₀)

@@ -21,11 +21,11 @@ use Rattle.engine.specs.Draws.{Drawn, Returns, Draws}
 module _ (s p₀ : List ℕ) (y₀ : List ℤ) (p : List ℕ) (y : List ℤ) (total : ℕ) (g : Returns (sheet-of s) p₀ y₀ p y total) where
   -- the facts that the checker decides
   facts : Accepted (sheet-of s) (take (sheet-of s .nodes) p) (take (certificate-size (sheet-of s)) y)
-  facts = record { drawing = g .leftmost .is-least .drawing; rules = g .rules; equal = g .bound-is ∙ ap pos (g .total-is) }
+  facts = record { drawing = g .leftmost .is-least .candidate; rules = g .rules; equal = g .bound-is ∙ ap pos (g .total-is) }
 
   -- enough places
   places-enough : sheet-of s .nodes ≤ length p
-  places-enough = omega (arith, g .leftmost .is-least .drawing .size, length-take (sheet-of s .nodes) p)
+  places-enough = omega (arith, g .leftmost .is-least .candidate .size, length-take (sheet-of s .nodes) p)
 
   -- enough numbers
   numbers-enough : certificate-size (sheet-of s) ≤ length y

@@ -29,10 +29,10 @@ module _ (S : Sheet) (places list : ℕ) where
   one-refusal (none r h) (few-places k) = absurd (omega (arith, r .nodes))
   one-refusal (none r h) (few-numbers k) = absurd (omega (arith, r .numbers))
   one-refusal (none r h) (none t k) = omega arith
-  one-refusal (none r h) (passes d t b k) = absurd (h d (b .is-least .drawing))
+  one-refusal (none r h) (passes d t b k) = absurd (h d (b .is-least .candidate))
   one-refusal (passes d r b h) (few-places k) = absurd (omega (arith, r .nodes))
   one-refusal (passes d r b h) (few-numbers k) = absurd (omega (arith, r .numbers))
-  one-refusal (passes d r b h) (none t k) = absurd (k d (b .is-least .drawing))
+  one-refusal (passes d r b h) (none t k) = absurd (k d (b .is-least .candidate))
   one-refusal (passes d r b h) (passes e t c k) = omega arith
 
 module _ (S : Sheet) (p₀ : List ℕ) (y₀ : List ℤ) where
@@ -40,7 +40,7 @@ module _ (S : Sheet) (p₀ : List ℕ) (y₀ : List ℤ) where
   refused-not : {n t : ℕ} {p : List ℕ} {y : List ℤ} → Refuses S (length p₀) (length y₀) n → Returns S p₀ y₀ p y t → ⊥
   refused-not (few-places h) g = omega (arith, g .room .nodes)
   refused-not (few-numbers h) g = omega (arith, g .room .numbers)
-  refused-not (none r h) g = h _ (g .leftmost .is-least .drawing)
+  refused-not (none r h) g = h _ (g .leftmost .is-least .candidate)
   refused-not {p = p} (passes d r b h) g =
       omega (arith, g .total-is, g .total-in, ap (total-length S) (leftmost-unique S d (take (S .nodes) p) b (g .leftmost)))
 

@@ -15,4 +15,4 @@ pub refused-none : (S : Sheet) (places list : ℕ) → Proper S → Room S place
 refused-none S places list proper room (few-places h) = absurd (omega (arith, room .nodes))
 refused-none S places list proper room (few-numbers h) = absurd (omega (arith, room .numbers))
 refused-none S places list proper room (none r h) = (refl, h)
-refused-none S places list proper room (passes p r b h) = absurd (omega (arith, total-small S p proper (b .is-least .drawing)))
+refused-none S places list proper room (passes p r b h) = absurd (omega (arith, total-small S p proper (b .is-least .candidate)))

@@ -39,12 +39,12 @@ drawn-answer S p₀ y₀ p y coordinates total proper room l e (Drawn.drawn t) g
     let same : take (S .nodes) p ≡ coordinates = leftmost-unique S (take (S .nodes) p) coordinates (g .leftmost) l in
     (ap Drawn.drawn (g .total-is ∙ ap (total-length S) same ∙ e), same)
 drawn-answer S p₀ y₀ p y coordinates total proper room l e (Drawn.refused r) g =
-    absurd (refused-none S (length p₀) (length y₀) proper room (g .0) .1 coordinates (l .is-least .drawing))
+    absurd (refused-none S (length p₀) (length y₀) proper room (g .0) .1 coordinates (l .is-least .candidate))
 
 -- the answer for a sheet without a drawing
 none-answer : (S : Sheet) (p₀ : List ℕ) (y₀ : List ℤ) (p : List ℕ) (y : List ℤ) → Proper S → Room S (length p₀) (length y₀)
     → NoDrawing S → (d : Drawn) → DrawsSheet S p₀ y₀ p y d → d ≡ Drawn.refused (refusal none-exists 0)
-none-answer S p₀ y₀ p y proper room n (Drawn.drawn t) g = absurd (n (take (S .nodes) p) (g .leftmost .is-least .drawing))
+none-answer S p₀ y₀ p y proper room n (Drawn.drawn t) g = absurd (n (take (S .nodes) p) (g .leftmost .is-least .candidate))
 none-answer S p₀ y₀ p y proper room n (Drawn.refused r) g =
     ap₂ (λ (k o : ℕ). Drawn.refused (record { number = k; offset = o })) (refused-none S (length p₀) (length y₀) proper room (g .0) .0) (g .1)
 
@@ -80,7 +80,7 @@ row-answered r row = go (r .outcome) (row .says)
     go : (o : Outcome) → Says S o → Answered (r .bytes) o
     go (Outcome.drawn total coordinates list) s = record {
       drawing = every (λ places d. (d ≡ Drawn.drawn total) × (places ≡ coordinates)) (λ p₀ y₀ p y d room g. drawn-answer S p₀ y₀ p y coordinates total proper room (s .leftmost) (s .sum) d g);
-      checked = check-word (r .bytes) (row .numbers) coordinates list true (row .read) (s .leftmost .is-least .drawing .size) (s .list-size) (s .accepted) ∙ said-yes-is;
+      checked = check-word (r .bytes) (row .numbers) coordinates list true (row .read) (s .leftmost .is-least .candidate .size) (s .list-size) (s .accepted) ∙ said-yes-is;
     }
     go (Outcome.undrawable list) s =
         every (λ places d. d ≡ Drawn.refused (refusal none-exists 0)) (λ p₀ y₀ p y d room g. none-answer S p₀ y₀ p y proper room s d g)

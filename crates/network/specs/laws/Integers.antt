@@ -31,6 +31,11 @@ pub ≤ℤ-plus : (a : ℤ) (k : ℕ) → a ≤ℤ (a +ℤ pos k)
 unfolding up down
 ≤ℤ-plus a k = parts-le a (a +ℤ pos k) (omega (arith, sum-parts a (pos k)))
 
+-- 0 adds nothing
+pub +ℤ-none : (a : ℤ) → a +ℤ pos 0 ≡ a
+unfolding up down
++ℤ-none a = parts-eq (a +ℤ pos 0) a (omega (arith, sum-parts a (pos 0)))
+
 -- what adds nothing is 0
 pub plus-cancel : (a : ℤ) (k : ℕ) → a +ℤ pos k ≡ a → k ≡ 0
 unfolding up down
