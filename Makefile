@@ -4,6 +4,7 @@
 #   make lib          the libraries alone
 #   make install      installs what is built, to PREFIX (/usr/local) below DESTDIR; it builds nothing
 #   make uninstall    takes away what was installed
+#   make times        prints how long the check of each crate takes, from nothing: minutes
 #   make check        the gate, .ci/run: proves everything from nothing and runs all tests
 #   make clean        takes away everything that was built, proofs too
 #   make help         prints these lines
@@ -83,6 +84,12 @@ uninstall:
 	    "$(DESTDIR)$(LIBDIR)/libstrip.so.0" "$(DESTDIR)$(LIBDIR)/libstrip.so" \
 	    "$(DESTDIR)$(LIBDIR)/pkgconfig/strip.pc" "$(DESTDIR)$(BINDIR)/place"
 
+# A copy of the crates is proved, so that what is built stays.
+times:
+	@copy=$$(mktemp -d) && cp -R crates crates.txt "$$copy" && (cd "$$copy" && $(RT) check) > "$$copy/log" 2>&1; status=$$?; \
+	    sed -n 's/^rt: \(.*\) proved (\(.*\))$$/\1 \2/p' "$$copy/log"; \
+	    [ $$status -eq 0 ] || tail -n 5 "$$copy/log" >&2; rm -rf "$$copy"; exit $$status
+
 check:
 	.ci/run
 
@@ -94,5 +101,5 @@ help:
 
 FORCE:
 
-.PHONY: all lib install uninstall check clean help FORCE
+.PHONY: all lib install uninstall times check clean help FORCE
 .DELETE_ON_ERROR:

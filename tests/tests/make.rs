@@ -246,10 +246,33 @@ fn paths_with_a_space_are_installed_to_or_refused() {
 fn help_has_every_target() {
     let repository = Repository::new("help");
     let help = repository.output(make().arg("help"));
-    for target in ["lib", "install", "uninstall", "check", "clean", "help"] {
+    for target in [
+        "lib",
+        "install",
+        "uninstall",
+        "times",
+        "check",
+        "clean",
+        "help",
+    ] {
         let start = format!("make {target} ");
         assert!(help.lines().any(|line| line.starts_with(&start)), "{help}");
     }
+}
+
+#[test]
+fn times_are_those_of_a_copy() {
+    let repository = Repository::new("times");
+    let kit = "echo rt: sheet proved \\(25 s\\)\necho rt: ok\n[ -e crates.txt ] && [ ! -e Makefile ]\n";
+    repository.write("kit", kit.as_bytes());
+    let kit = format!("RT=sh {}", repository.folder.join("kit").display());
+    let printed = repository.output(make().arg(&kit).arg("times"));
+    assert_eq!(printed, "sheet 25 s\n");
+    repository.write("kit", b"echo rt: sheet NOT PROVED\nexit 1\n");
+    let failed = run_in(&repository.folder, make().arg(&kit).arg("times"));
+    assert!(!failed.status.success());
+    assert!(String::from_utf8_lossy(&failed.stderr).contains("NOT PROVED"));
+    assert!(!repository.has("target"));
 }
 
 #[test]
