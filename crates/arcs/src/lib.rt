@@ -22,10 +22,10 @@ use sheet::limits::MAX_LAYERS;
 use sheet::limits::MAX_NUMBERS;
 ghost use mathlib.Core.Path.{_≡_};
 ghost use lib.ListN.{length};
-ghost use Rattle.leb128.specs.Format.{reading};
 ghost use Rattle.leb128.specs.Format.Result.{elements};
-ghost use Rattle.sheet.specs.Limits.{magic, «max-nodes»};
+ghost use Rattle.sheet.specs.Limits.{«max-nodes»};
 ghost use Rattle.sheet.specs.Grammar.{sheet};
+ghost use Rattle.sheet.specs.Reading.{«read-sheet»};
 ghost use Rattle.drawing.specs.laws.Good.{Good};
 ghost use Rattle.arcs.specs.Loading.{loading, «load-answer», «load-slice»};
 
@@ -45,8 +45,8 @@ pub enum Loaded {
 
 // Loads the arcs of a sheet into the front of the lent slice.
 pub fn load(bytes: &[u8], arcs: &mut [u32]) -> Loaded
-    ensures answer { λ r. ⌜ loading r ≡ load-answer (length (now (arcs .entry))) (reading magic sheet (now (bytes .entry))) ⌝ }
-    ensures slice { λ r. ⌜ now (arcs .exit) ≡ load-slice (reading magic sheet (now (bytes .entry))) (now (arcs .entry)) ⌝ }
+    ensures answer { λ r. ⌜ loading r ≡ load-answer (length (now (arcs .entry))) (read-sheet (now (bytes .entry))) ⌝ }
+    ensures slice { λ r. ⌜ now (arcs .exit) ≡ load-slice (read-sheet (now (bytes .entry))) (now (arcs .entry)) ⌝ }
 {
     let mut numbers = [0u16; MAX_NUMBERS];
     let answer = sheet::read(bytes, &mut numbers);

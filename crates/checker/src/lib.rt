@@ -11,11 +11,10 @@ use arcs::limits::MAX_ELEMENTS;
 use leb128::Refusal;
 use leb128::refusals::SLICE_SHORT;
 ghost use mathlib.Core.Path.{_≡_};
-ghost use Rattle.leb128.specs.Format.{reading};
 ghost use Rattle.leb128.specs.Source.{refusal};
 ghost use Rattle.leb128.specs.Refusals.{«slice-short»};
-ghost use Rattle.sheet.specs.Limits.{magic};
 ghost use Rattle.sheet.specs.Grammar.{sheet};
+ghost use Rattle.sheet.specs.Reading.{«read-sheet»};
 ghost use Rattle.checker.specs.Verdict.{judgement, decided, «check-answer»};
 ghost use Rattle.checker.specs.Shown.{ShownLeast};
 ghost use Rattle.arcs.specs.laws.Held.{Holds};
@@ -31,8 +30,8 @@ pub enum Verdict {
 // Whether places are a drawing of a sheet and the list is a certificate that no drawing has a smaller total; excess elements
 // are not looked at. Yes shows both, whoever made sheet, places and list.
 pub fn check(bytes: &[u8], places: &[u16], list: &[i32]) -> Verdict
-    ensures answer { λ r. ⌜ judgement r ≡ check-answer (reading magic sheet (now (bytes .entry))) (now (places .entry)) (now (list .entry)) ⌝ }
-    ensures least { λ r. ⌜ (r ≡ Verdict.Yes → ShownLeast (reading magic sheet (now (bytes .entry))) (now (places .entry))) ⌝ }
+    ensures answer { λ r. ⌜ judgement r ≡ check-answer (read-sheet (now (bytes .entry))) (now (places .entry)) (now (list .entry)) ⌝ }
+    ensures least { λ r. ⌜ (r ≡ Verdict.Yes → ShownLeast (read-sheet (now (bytes .entry))) (now (places .entry))) ⌝ }
 {
     let mut arcs = [0u32; MAX_ELEMENTS];
     match arcs::load(bytes, &mut arcs) {

@@ -5,10 +5,9 @@ use mathlib.Core.Bool.{true, false}
 use mathlib.Core.List.{List, [], _∷_}
 use lib.IntN.{ℤ}
 use lib.ListN.{length}
-use Rattle.leb128.specs.Format.{reading}
 use Rattle.leb128.specs.Format.Result.{elements}
-use Rattle.sheet.specs.Limits.{magic}
 use Rattle.sheet.specs.Grammar.{sheet}
+use Rattle.sheet.specs.Reading.{read-sheet}
 use Rattle.drawing.specs.Sheet.{Sheet, sheet-of}
 use Rattle.drawing.specs.Drawing.{Drawing, total-length, LeftmostDrawing}
 use Rattle.drawing.specs.Certificate.{certificate-size}
@@ -51,7 +50,7 @@ Says S (rejected coordinates list) = Rejected S coordinates list
 -- what a row says: the bytes read as a good sheet, and its outcome is this
 pub record Holds (r : Row) : Type 0 where
   pub numbers : List ℕ
-  pub read : reading magic sheet (r .bytes) ≡ elements numbers
+  pub read : read-sheet (r .bytes) ≡ elements numbers
   pub says : Says (sheet-of numbers) (r .outcome)
 
 -- every row holds

@@ -5,10 +5,9 @@ use mathlib.Core.List.{List, [], _∷_}
 use lib.IntN.{ℤ}
 use lib.ListN.{length, take}
 use Rattle.leb128.specs.Source.{refusal}
-use Rattle.leb128.specs.Format.{reading}
 use Rattle.leb128.specs.Format.Result.{elements}
-use Rattle.sheet.specs.Limits.{magic}
 use Rattle.sheet.specs.Grammar.{sheet}
+use Rattle.sheet.specs.Reading.{read-sheet}
 use Rattle.drawing.specs.Sheet.{sheet-of}
 use Rattle.drawing.specs.Rows.{Outcome, Row}
 use Rattle.drawing.specs.Rows.Outcome.{drawn, undrawable, rejected}
@@ -25,20 +24,20 @@ pub record Same (p q : List ℕ) (a b : Drawn) : Type 0 where
 -- this property of its places and its answer
 pub record EveryDrawing (bytes : List ℕ) (P : List ℕ → Drawn → Type 0) : Type 0 where
   pub numbers : List ℕ
-  pub reads : reading magic sheet bytes ≡ elements numbers
+  pub reads : read-sheet bytes ≡ elements numbers
   pub answers : (p₀ : List ℕ) (y₀ : List ℤ) (p : List ℕ) (y : List ℤ) (d : Drawn) → Room (sheet-of numbers) (length p₀) (length y₀)
-      → Draws (reading magic sheet bytes) p₀ y₀ p y d → P (take (sheet-of numbers .nodes) p) d
+      → Draws (read-sheet bytes) p₀ y₀ p y d → P (take (sheet-of numbers .nodes) p) d
 
 -- a drawn row: every drawing has the row's total and places, and the checker says yes to them and the row's list
 pub record DrawnRow (bytes : List ℕ) (total : ℕ) (coordinates : List ℕ) (list : List ℤ) : Type 0 where
   pub drawing : EveryDrawing bytes (λ places d. (d ≡ Drawn.drawn total) × (places ≡ coordinates))
-  pub checked : check-answer (reading magic sheet bytes) coordinates list ≡ Judgement.accepted
+  pub checked : check-answer (read-sheet bytes) coordinates list ≡ Judgement.accepted
 
 -- what both calls answer on a row's bytes: a sheet without a drawing is refused with 8 at 0, a rejected list gets a no
 abbrev pub Answered : List ℕ → Outcome → Type 0
 Answered bytes (drawn total coordinates list) = DrawnRow bytes total coordinates list
 Answered bytes (undrawable list) = EveryDrawing bytes (λ places d. d ≡ Drawn.refused (refusal none-exists 0))
-Answered bytes (rejected coordinates list) = check-answer (reading magic sheet bytes) coordinates list ≡ Judgement.rejected
+Answered bytes (rejected coordinates list) = check-answer (read-sheet bytes) coordinates list ≡ Judgement.rejected
 
 -- on every row
 abbrev pub EveryAnswered : List Row → Type 0

@@ -14,9 +14,8 @@ use arcs::limits::MAX_ELEMENTS;
 use circulation::layout::NODE_STRIDE;
 use leb128::Refusal;
 use leb128::refusals::SLICE_SHORT;
-ghost use Rattle.leb128.specs.Format.{reading};
-ghost use Rattle.sheet.specs.Limits.{magic};
 ghost use Rattle.sheet.specs.Grammar.{sheet};
+ghost use Rattle.sheet.specs.Reading.{«read-sheet»};
 ghost use Rattle.arcs.specs.laws.Held.{Holds};
 ghost use Rattle.engine.specs.Draws.{result, Draws};
 ghost use Rattle.engine.specs.inside.Stages.{DrawsHeld};
@@ -30,7 +29,7 @@ pub enum Answer {
 // The leftmost least drawing of a sheet, in front of the places, and a list that shows its total to be least, in front of the
 // list; or the refusal.
 pub fn draw(bytes: &[u8], places: &mut [u16], list: &mut [i32]) -> Answer
-    ensures { λ r. ⌜ Draws (reading magic sheet (now (bytes .entry))) (now (places .entry)) (now (list .entry)) (now (places .exit)) (now (list .exit)) (result r) ⌝ }
+    ensures { λ r. ⌜ Draws (read-sheet (now (bytes .entry))) (now (places .entry)) (now (list .entry)) (now (places .exit)) (now (list .exit)) (result r) ⌝ }
 {
     let mut arcs = [0u32; MAX_ELEMENTS];
     match arcs::load(bytes, &mut arcs) {

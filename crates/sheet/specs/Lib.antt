@@ -2,5 +2,6 @@ pub mod Limits
 pub mod Layout
 pub mod Refusals
 pub mod Grammar
+pub mod Reading
 pub mod inside
 pub mod laws

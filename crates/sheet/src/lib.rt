@@ -15,15 +15,15 @@ use leb128::refusals::SOMETHING_FOLLOWS;
 ghost use mathlib.Core.Path.{_≡_};
 ghost use lib.ListN.{length};
 ghost use Rattle.leb128.specs.Source.{refusal};
-ghost use Rattle.leb128.specs.Format.{outcome, reading, writing, answered, filled};
-ghost use Rattle.sheet.specs.Limits.{magic};
+ghost use Rattle.leb128.specs.Format.{outcome, answered, filled};
 ghost use Rattle.sheet.specs.Grammar.{sheet};
+ghost use Rattle.sheet.specs.Reading.{«read-sheet», «write-sheet»};
 ghost use Rattle.sheet.specs.inside.Cursor.{walked, ended, settled};
 
 // Reads a sheet's bytes into the front of the lent slice.
 pub fn read(bytes: &[u8], numbers: &mut [u16]) -> Answer
-    ensures answer { λ r. ⌜ outcome r ≡ answered (length (now (numbers .entry))) (reading magic sheet (now (bytes .entry))) ⌝ }
-    ensures slice { λ r. ⌜ now (numbers .exit) ≡ filled (reading magic sheet (now (bytes .entry))) (now (numbers .entry)) ⌝ }
+    ensures answer { λ r. ⌜ outcome r ≡ answered (length (now (numbers .entry))) (read-sheet (now (bytes .entry))) ⌝ }
+    ensures slice { λ r. ⌜ now (numbers .exit) ≡ filled (read-sheet (now (bytes .entry))) (now (numbers .entry)) ⌝ }
 {
     let answer = settle(start::walk_bytes(bytes), bytes.len(), numbers.len());
     let Answer::Done(count) = answer else {
@@ -35,8 +35,8 @@ pub fn read(bytes: &[u8], numbers: &mut [u16]) -> Answer
 
 // Writes the sheet of a number list into the front of the lent slice.
 pub fn write(numbers: &[u16], bytes: &mut [u8]) -> Answer
-    ensures answer { λ r. ⌜ outcome r ≡ answered (length (now (bytes .entry))) (writing magic sheet (now (numbers .entry))) ⌝ }
-    ensures slice { λ r. ⌜ now (bytes .exit) ≡ filled (writing magic sheet (now (numbers .entry))) (now (bytes .entry)) ⌝ }
+    ensures answer { λ r. ⌜ outcome r ≡ answered (length (now (bytes .entry))) (write-sheet (now (numbers .entry))) ⌝ }
+    ensures slice { λ r. ⌜ now (bytes .exit) ≡ filled (write-sheet (now (numbers .entry))) (now (bytes .entry)) ⌝ }
 {
     let answer = settle(start::walk_list(numbers), numbers.len(), bytes.len());
     let Answer::Done(_) = answer else {

@@ -4,9 +4,9 @@ use leb128::read_number;
 ghost use mathlib.Core.Path.{_≡_};
 ghost use Prim.Native.Nat.{_≤_};
 ghost use lib.ListN.{length};
-ghost use Rattle.leb128.specs.Format.{reading, filled};
-ghost use Rattle.sheet.specs.Limits.{magic};
+ghost use Rattle.leb128.specs.Format.{filled};
 ghost use Rattle.sheet.specs.Grammar.{sheet};
+ghost use Rattle.sheet.specs.Reading.{«read-sheet»};
 ghost use Rattle.sheet.specs.inside.Passes.{Holds};
 use crate::start::MAGIC;
 
@@ -14,7 +14,7 @@ use crate::start::MAGIC;
 pub fn fill(bytes: &[u8], numbers: &mut [u16], count: usize)
     requires { ⌜ Holds (now bytes) count ⌝ }
     requires { ⌜ count ≤ length (now numbers) ⌝ }
-    ensures { λ r. ⌜ now (numbers .exit) ≡ filled (reading magic sheet (now (bytes .entry))) (now (numbers .entry)) ⌝ }
+    ensures { λ r. ⌜ now (numbers .exit) ≡ filled (read-sheet (now (bytes .entry))) (now (numbers .entry)) ⌝ }
 {
     let mut at = MAGIC.len();
     let mut i: usize = 0;

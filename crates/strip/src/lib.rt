@@ -7,17 +7,17 @@ use crate::words::drawing_word;
 use crate::words::verdict_word;
 ghost use mathlib.Core.Path.{_≡_};
 ghost use lib.ListN.{length};
-ghost use Rattle.leb128.specs.Format.{reading, writing, answered, filled};
-ghost use Rattle.sheet.specs.Limits.{magic};
+ghost use Rattle.leb128.specs.Format.{answered, filled};
 ghost use Rattle.sheet.specs.Grammar.{sheet};
+ghost use Rattle.sheet.specs.Reading.{«read-sheet», «write-sheet»};
 ghost use Rattle.checker.specs.Verdict.{«check-answer»};
 ghost use Rattle.strip.specs.Words.{«outcome-word», «judgement-word», DrawsWord};
 
 // Reads a sheet's bytes into the front of the numbers.
 #[no_mangle]
 pub extern "C" fn strip_read(bytes: &[u8], numbers: &mut [u16]) -> u64
-    ensures answer { λ r. ⌜ r ≡ outcome-word (answered (length (now (numbers .entry))) (reading magic sheet (now (bytes .entry)))) ⌝ }
-    ensures slice { λ r. ⌜ now (numbers .exit) ≡ filled (reading magic sheet (now (bytes .entry))) (now (numbers .entry)) ⌝ }
+    ensures answer { λ r. ⌜ r ≡ outcome-word (answered (length (now (numbers .entry))) (read-sheet (now (bytes .entry)))) ⌝ }
+    ensures slice { λ r. ⌜ now (numbers .exit) ≡ filled (read-sheet (now (bytes .entry))) (now (numbers .entry)) ⌝ }
 {
     answer_word(sheet::read(bytes, numbers))
 }
@@ -25,8 +25,8 @@ pub extern "C" fn strip_read(bytes: &[u8], numbers: &mut [u16]) -> u64
 // Writes the sheet of a number list into the front of the bytes.
 #[no_mangle]
 pub extern "C" fn strip_write(numbers: &[u16], bytes: &mut [u8]) -> u64
-    ensures answer { λ r. ⌜ r ≡ outcome-word (answered (length (now (bytes .entry))) (writing magic sheet (now (numbers .entry)))) ⌝ }
-    ensures slice { λ r. ⌜ now (bytes .exit) ≡ filled (writing magic sheet (now (numbers .entry))) (now (bytes .entry)) ⌝ }
+    ensures answer { λ r. ⌜ r ≡ outcome-word (answered (length (now (bytes .entry))) (write-sheet (now (numbers .entry)))) ⌝ }
+    ensures slice { λ r. ⌜ now (bytes .exit) ≡ filled (write-sheet (now (numbers .entry))) (now (bytes .entry)) ⌝ }
 {
     answer_word(sheet::write(numbers, bytes))
 }
@@ -34,7 +34,7 @@ pub extern "C" fn strip_write(numbers: &[u16], bytes: &mut [u8]) -> u64
 // Draws a sheet into the fronts of the places and the list.
 #[no_mangle]
 pub extern "C" fn strip_draw(bytes: &[u8], places: &mut [u16], list: &mut [i32]) -> u64
-    ensures { λ r. ⌜ DrawsWord (reading magic sheet (now (bytes .entry))) (now (places .entry)) (now (list .entry)) (now (places .exit)) (now (list .exit)) r ⌝ }
+    ensures { λ r. ⌜ DrawsWord (read-sheet (now (bytes .entry))) (now (places .entry)) (now (list .entry)) (now (places .exit)) (now (list .exit)) r ⌝ }
 {
     drawing_word(engine::draw(bytes, places, list))
 }
@@ -42,7 +42,7 @@ pub extern "C" fn strip_draw(bytes: &[u8], places: &mut [u16], list: &mut [i32])
 // Says whether places are a drawing of a sheet and the list shows that none has a smaller total.
 #[no_mangle]
 pub extern "C" fn strip_check(bytes: &[u8], places: &[u16], list: &[i32]) -> u64
-    ensures { λ r. ⌜ r ≡ judgement-word (check-answer (reading magic sheet (now (bytes .entry))) (now (places .entry)) (now (list .entry))) ⌝ }
+    ensures { λ r. ⌜ r ≡ judgement-word (check-answer (read-sheet (now (bytes .entry))) (now (places .entry)) (now (list .entry))) ⌝ }
 {
     verdict_word(checker::check(bytes, places, list))
 }

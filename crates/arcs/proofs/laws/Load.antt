@@ -14,9 +14,10 @@ use Rattle.leb128.specs.laws.GoodFormat.{answered-wrote, filled-elements}
 use Rattle.leb128.specs.declared.Refusal.{Refusal}
 use Rattle.leb128.specs.declared.Answer.{Answer}
 use Rattle.leb128.specs.declared.Answer.the-variants.{Done, Refused}
-use Rattle.sheet.specs.Limits.{magic, max-nodes, max-numbers}
+use Rattle.sheet.specs.Limits.{max-nodes, max-numbers}
 use Rattle.sheet.specs.Layout.{width-at}
 use Rattle.sheet.specs.Grammar.{sheet}
+use Rattle.sheet.specs.Reading.{read-sheet}
 use Rattle.sheet.specs.laws.Sheets.{read-accepted, most-numbers, good-layout}
 use Rattle.network.specs.Packed.{stride, packed}
 use Rattle.drawing.specs.Sheet.{sheet-of, at-width}
@@ -79,12 +80,12 @@ answered-refused room (elements es) {r} fits e =
 answered-refused room (Result.refused s) {r} fits e = let are : s ≡ r = cc in ap Result.refused are
 
 -- what the reader answered and left
-module _ {answer : Answer} (bytes old new : List ℕ) (e : outcome answer ≡ answered (length old) (reading magic sheet bytes)) (f : new ≡ filled (reading magic sheet bytes) old) where
+module _ {answer : Answer} (bytes old new : List ℕ) (e : outcome answer ≡ answered (length old) (read-sheet bytes)) (f : new ≡ filled (read-sheet bytes) old) where
   module _ {count : ℕ} (is : answer ≡ Done count) where
     -- the numbers that were read, how many they are, and that they have room
-    done : (es : List ℕ) × (reading magic sheet bytes ≡ elements es) × (count ≡ length es) × (length es ≤ length old)
+    done : (es : List ℕ) × (read-sheet bytes ≡ elements es) × (count ≡ length es) × (length es ≤ length old)
     unfolding outcome
-    done = answered-wrote (length old) (reading magic sheet bytes) count (sym e ∙ ap outcome is)
+    done = answered-wrote (length old) (read-sheet bytes) count (sym e ∙ ap outcome is)
 
     -- they stand in front
     front : new ≡ done .0 ++ drop (length (done .0)) old
@@ -101,7 +102,7 @@ module _ {answer : Answer} (bytes old new : List ℕ) (e : outcome answer ≡ an
         ap (λ (n : ℕ). take n new) none ∙ ap (take count) front ∙ take-at (done .0) (drop (length (done .0)) old) count (sym (done .2))
 
     -- they are what reading gives
-    reading-is : reading magic sheet bytes ≡ elements (take (count - 0) new)
+    reading-is : read-sheet bytes ≡ elements (take (count - 0) new)
     reading-is = done .1 ∙ ap elements (sym numbers-are)
 
     -- they are good
@@ -112,27 +113,27 @@ module _ {answer : Answer} (bytes old new : List ℕ) (e : outcome answer ≡ an
 
     -- the answer for them is the answer for the bytes
     pub done-answer : (room : ℕ) {r : Loading} → r ≡ load-answer room (elements (take (count - 0) new))
-        → r ≡ load-answer room (reading magic sheet bytes)
+        → r ≡ load-answer room (read-sheet bytes)
     done-answer room k = k ∙ ap (load-answer room) (sym reading-is)
 
     -- the slice for them is the slice for the bytes
     pub done-slice : (a : List ℕ) {b : List ℕ} → b ≡ load-slice (elements (take (count - 0) new)) a
-        → b ≡ load-slice (reading magic sheet bytes) a
+        → b ≡ load-slice (read-sheet bytes) a
     done-slice a k = k ∙ ap (λ (result : Result). load-slice result a) (sym reading-is)
 
   module _ (room : max-numbers ≤ length old) {r : Refusal} (is : answer ≡ Refused r) where
     -- the refusal is the reader's
-    reading-refused : reading magic sheet bytes ≡ Result.refused r
+    reading-refused : read-sheet bytes ≡ Result.refused r
     unfolding outcome
     reading-refused =
-        answered-refused (length old) (reading magic sheet bytes) (λ es i. omega (arith, most-numbers es (read-accepted bytes es i))) (sym e ∙ ap outcome is)
+        answered-refused (length old) (read-sheet bytes) (λ es i. omega (arith, most-numbers es (read-accepted bytes es i))) (sym e ∙ ap outcome is)
 
     -- it is the answer
-    pub refused-answer : (room : ℕ) → loading (loaded.Refused r) ≡ load-answer room (reading magic sheet bytes)
+    pub refused-answer : (room : ℕ) → loading (loaded.Refused r) ≡ load-answer room (read-sheet bytes)
     unfolding loading load-answer
     refused-answer room = rw reading-refused
 
     -- nothing is written
-    pub refused-slice : (a : List ℕ) → a ≡ load-slice (reading magic sheet bytes) a
+    pub refused-slice : (a : List ℕ) → a ≡ load-slice (read-sheet bytes) a
     unfolding load-slice
     refused-slice a = rw reading-refused

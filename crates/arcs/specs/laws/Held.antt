@@ -10,8 +10,9 @@ use Rattle.leb128.specs.Format.{reading}
 use Rattle.leb128.specs.Format.Result.{elements}
 use Rattle.leb128.specs.Grammar.{Accepts}
 use Rattle.sheet.specs.Grammar.{sheet}
+use Rattle.sheet.specs.Reading.{read-sheet}
 use Rattle.sheet.specs.Layout.{node-count}
-use Rattle.sheet.specs.Limits.{magic, max-nodes}
+use Rattle.sheet.specs.Limits.{max-nodes}
 use Rattle.network.specs.Sums.{all}
 use Rattle.network.specs.Network.{Arc}
 use Rattle.network.specs.Packed.{kink-at, stride, kink-zero, packs, packed, storable, arcs-to, network-of}
@@ -53,7 +54,7 @@ loaded-holds {bytes} {old} l = record {
 
 -- the numbers are those that reading gives
 pub holds-reads : {bytes old new : List ℕ} {c : Counts} (l : LoadedSheet bytes old new c)
-    → reading magic sheet bytes ≡ elements (loaded-holds l .numbers)
+    → read-sheet bytes ≡ elements (loaded-holds l .numbers)
 unfolding loaded-holds
 holds-reads l = l .reads
 

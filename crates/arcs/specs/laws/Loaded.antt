@@ -11,8 +11,9 @@ use Rattle.leb128.specs.Format.Result.{elements}
 use Rattle.leb128.specs.laws.Cases.{lt-or-le}
 use Rattle.leb128.specs.Grammar.{Accepts}
 use Rattle.leb128.specs.declared.Refusal.{Refusal}
-use Rattle.sheet.specs.Limits.{magic, max-nodes}
+use Rattle.sheet.specs.Limits.{max-nodes}
 use Rattle.sheet.specs.Grammar.{sheet}
+use Rattle.sheet.specs.Reading.{read-sheet}
 use Rattle.sheet.specs.laws.Sheets.{read-accepted, good-layout}
 use Rattle.network.specs.Packed.{packs}
 use Rattle.drawing.specs.Sheet.{sheet-of}
@@ -31,7 +32,7 @@ use Rattle.arcs.specs.declared.Loaded.the-variants.{Sheet, Refused}
 -- a sheet that was loaded from bytes into a slice: its numbers, which are good, its counts, and the slice afterwards
 pub record LoadedSheet (bytes old new : List ℕ) (c : Counts) : Type 0 where
   pub numbers : List ℕ
-  pub reads : reading magic sheet bytes ≡ elements numbers
+  pub reads : read-sheet bytes ≡ elements numbers
   pub good : Accepts sheet numbers
   pub nodes : c .nodes ≡ sheet-of numbers .nodes
   pub edges : c .edges ≡ length (sheet-of numbers .edges)
@@ -56,12 +57,12 @@ unfolding loading
 refused-answer is e = sym (ap loading is) ∙ e
 
 -- an answer with a sheet
-pub loaded-sheet : (bytes old : List ℕ) {new : List ℕ} {answer : Loaded} {c : Counts} → answer ≡ Sheet c → loading answer ≡ load-answer (length old) (reading magic sheet bytes)
-    → new ≡ load-slice (reading magic sheet bytes) old → LoadedSheet bytes old new c
+pub loaded-sheet : (bytes old : List ℕ) {new : List ℕ} {answer : Loaded} {c : Counts} → answer ≡ Sheet c → loading answer ≡ load-answer (length old) (read-sheet bytes)
+    → new ≡ load-slice (read-sheet bytes) old → LoadedSheet bytes old new c
 unfolding load-answer
-loaded-sheet bytes old {new} {answer} {c} is e f = go (reading magic sheet bytes) refl (sheet-answer is e) f
+loaded-sheet bytes old {new} {answer} {c} is e f = go (read-sheet bytes) refl (sheet-answer is e) f
   where
-    go : (result : Result) → reading magic sheet bytes ≡ result
+    go : (result : Result) → read-sheet bytes ≡ result
         → Loading.loaded (c .nodes) (c .edges) (c .arcs) (c .width) ≡ load-answer (length old) result
         → new ≡ load-slice result old → LoadedSheet bytes old new c
     go (elements numbers) i e f =
@@ -90,12 +91,12 @@ most-elements numbers a =
     omega (arith, proper .nodes, proper .few, arcs-count max-nodes numbers (accepts-good max-nodes (good-layout numbers a .nodes) a))
 
 -- where the slice is long enough for every sheet, a refusal is the reader's
-pub reader-refused : (bytes : List ℕ) (room : ℕ) {answer : Loaded} {r : Refusal} → max-elements ≤ room → answer ≡ Refused r → loading answer ≡ load-answer room (reading magic sheet bytes)
-    → reading magic sheet bytes ≡ Result.refused r
+pub reader-refused : (bytes : List ℕ) (room : ℕ) {answer : Loaded} {r : Refusal} → max-elements ≤ room → answer ≡ Refused r → loading answer ≡ load-answer room (read-sheet bytes)
+    → read-sheet bytes ≡ Result.refused r
 unfolding load-answer
-reader-refused bytes room {answer} {r} h is e = go (reading magic sheet bytes) refl (refused-answer is e)
+reader-refused bytes room {answer} {r} h is e = go (read-sheet bytes) refl (refused-answer is e)
   where
-    go : (result : Result) → reading magic sheet bytes ≡ result → Loading.refused r ≡ load-answer room result
+    go : (result : Result) → read-sheet bytes ≡ result → Loading.refused r ≡ load-answer room result
         → result ≡ Result.refused r
     go (elements numbers) i e =
         absurd

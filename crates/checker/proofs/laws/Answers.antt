@@ -11,8 +11,8 @@ use Rattle.leb128.specs.Source.{refusal}
 use Rattle.leb128.specs.Format.{Result, reading}
 use Rattle.leb128.specs.Format.Result.{elements}
 use Rattle.leb128.specs.declared.Refusal.{Refusal}
-use Rattle.sheet.specs.Limits.{magic}
 use Rattle.sheet.specs.Grammar.{sheet}
+use Rattle.sheet.specs.Reading.{read-sheet}
 use Rattle.network.specs.Network.{Network, integers}
 use Rattle.network.specs.Flows.{certifies}
 use Rattle.drawing.specs.Sheet.{sheet-of}
@@ -72,18 +72,18 @@ module _ {a : List ℕ} {c : Counts} (h : Holds a c) where
   held-numbers places list = rw (same-decision, h .nodes-are, size-is h)
 
   -- and so for its bytes
-  pub held-answer : (bytes places : List ℕ) (list : List ℤ) → reading magic sheet bytes ≡ elements (h .numbers)
-      → decided (c .nodes) (c .arcs) (table-decision a c) places list ≡ check-answer (reading magic sheet bytes) places list
+  pub held-answer : (bytes places : List ℕ) (list : List ℤ) → read-sheet bytes ≡ elements (h .numbers)
+      → decided (c .nodes) (c .arcs) (table-decision a c) places list ≡ check-answer (read-sheet bytes) places list
   unfolding check-answer
   held-answer bytes places list e = rw e (held-numbers places list)
 
 -- a slice into which a sheet was loaded answers for the sheet's bytes
 pub loaded-answer : {bytes old new : List ℕ} {c : Counts} → LoadedSheet bytes old new c → (places : List ℕ) (list : List ℤ)
-    → decided (c .nodes) (c .arcs) (table-decision new c) places list ≡ check-answer (reading magic sheet bytes) places list
+    → decided (c .nodes) (c .arcs) (table-decision new c) places list ≡ check-answer (read-sheet bytes) places list
 loaded-answer {bytes} l places list = held-answer (loaded-holds l) bytes places list (holds-reads l)
 
 -- a refusal of reading is the answer
-pub refused-answer : (bytes : List ℕ) {r : Refusal} → reading magic sheet bytes ≡ Result.refused r → (places : List ℕ) (list : List ℤ)
-    → judgement (variants.Refused r) ≡ check-answer (reading magic sheet bytes) places list
+pub refused-answer : (bytes : List ℕ) {r : Refusal} → read-sheet bytes ≡ Result.refused r → (places : List ℕ) (list : List ℤ)
+    → judgement (variants.Refused r) ≡ check-answer (read-sheet bytes) places list
 unfolding judgement check-answer
 refused-answer bytes e places list = rw e refl

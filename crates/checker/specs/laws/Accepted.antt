@@ -12,8 +12,8 @@ use Rattle.leb128.specs.Source.{refusal}
 use Rattle.leb128.specs.Format.{Result, reading}
 use Rattle.leb128.specs.Format.Result.{elements}
 use Rattle.leb128.specs.declared.Refusal.{Refusal}
-use Rattle.sheet.specs.Limits.{magic}
 use Rattle.sheet.specs.Grammar.{sheet}
+use Rattle.sheet.specs.Reading.{read-sheet}
 use Rattle.drawing.specs.Sheet.{sheet-of}
 use Rattle.drawing.specs.Drawing.{LeastDrawing}
 use Rattle.drawing.specs.Certificate.{certificate-size}
@@ -63,12 +63,12 @@ result-least (elements numbers) places list e = record { numbers = numbers; read
 result-least (Result.refused r) places list e = let z : _≡_ {A = ℕ} 0 1 = cc in absurd (omega arith)
 
 -- the checker's yes shows a least drawing
-pub accepted-least : (bytes places : List ℕ) (list : List ℤ) → check-answer (reading magic sheet bytes) places list ≡ Judgement.accepted
-    → ShownLeast (reading magic sheet bytes) places
-accepted-least bytes = result-least (reading magic sheet bytes)
+pub accepted-least : (bytes places : List ℕ) (list : List ℤ) → check-answer (read-sheet bytes) places list ≡ Judgement.accepted
+    → ShownLeast (read-sheet bytes) places
+accepted-least bytes = result-least (read-sheet bytes)
 
 -- the same of the code's answer
-pub verdict-least : (bytes places : List ℕ) (list : List ℤ) {v : Verdict} → judgement v ≡ check-answer (reading magic sheet bytes) places list
-    → v ≡ Yes → ShownLeast (reading magic sheet bytes) places
+pub verdict-least : (bytes places : List ℕ) (list : List ℤ) {v : Verdict} → judgement v ≡ check-answer (read-sheet bytes) places list
+    → v ≡ Yes → ShownLeast (read-sheet bytes) places
 unfolding judgement
 verdict-least bytes places list e is = accepted-least bytes places list (sym e ∙ ap judgement is)

@@ -13,8 +13,7 @@ use Rattle.leb128.specs.Source.{refusal}
 use Rattle.leb128.specs.Format.{Result, reading}
 use Rattle.leb128.specs.Format.Result.{elements}
 use Rattle.leb128.specs.declared.Refusal.{Refusal}
-use Rattle.sheet.specs.Limits.{magic}
-use Rattle.sheet.specs.Grammar.{sheet}
+use Rattle.sheet.specs.Reading.{read-sheet}
 use Rattle.sheet.specs.laws.Sheets.{reader-refusals, reader-offsets}
 use Rattle.sheet.specs.Refusals.{SheetRefusal}
 use Rattle.drawing.specs.Sheet.{sheet-of}
@@ -41,12 +40,12 @@ tests-refused false true decision r e = let is-r : r ≡ refusal slice-short 0 =
 tests-refused false false decision r e = absurd (said-not decision r e)
 
 -- what the checker refuses
-pub check-refusals : (bytes places : List ℕ) (list : List ℤ) (r : Refusal) → check-answer (reading magic sheet bytes) places list ≡ Judgement.refused r
+pub check-refusals : (bytes places : List ℕ) (list : List ℤ) (r : Refusal) → check-answer (read-sheet bytes) places list ≡ Judgement.refused r
     → SheetRefusal r
 unfolding check-answer judge-numbers decided
-check-refusals bytes places list r e = go (reading magic sheet bytes) refl e
+check-refusals bytes places list r e = go (read-sheet bytes) refl e
   where
-    go : (read : Result) → reading magic sheet bytes ≡ read → check-answer read places list ≡ Judgement.refused r → SheetRefusal r
+    go : (read : Result) → read-sheet bytes ≡ read → check-answer read places list ≡ Judgement.refused r → SheetRefusal r
     go (elements numbers) i e =
         tests-refused (ltb (length places) (sheet-of numbers .nodes)) (ltb (length list) (certificate-size (sheet-of numbers)))
         (judged (sheet-of numbers) (take (sheet-of numbers .nodes) places) (take (certificate-size (sheet-of numbers)) list)) r e

@@ -8,8 +8,7 @@ use lib.IntN.{ℤ}
 use lib.ListN.{length}
 use Rattle.leb128.specs.Format.{Result, reading}
 use Rattle.leb128.specs.Format.Result.{elements, refused}
-use Rattle.sheet.specs.Limits.{magic}
-use Rattle.sheet.specs.Grammar.{sheet}
+use Rattle.sheet.specs.Reading.{read-sheet}
 use Rattle.network.specs.Sums.{all}
 use Rattle.network.specs.laws.Tests.{and-left, and-right, is-true, is-false}
 use Rattle.drawing.specs.Sheet.{Sheet, sheet-of}
@@ -74,13 +73,13 @@ passes-read (refused r) o = false
 
 -- the test of a row
 abbrev pub passed : Row → Bool
-passed r = passes-read (reading magic sheet (r .bytes)) (r .outcome)
+passed r = passes-read (read-sheet (r .bytes)) (r .outcome)
 
 -- a row that passes holds
 passed-holds : (r : Row) → T (passed r) → Holds r
-passed-holds r t = go (reading magic sheet (r .bytes)) refl t
+passed-holds r t = go (read-sheet (r .bytes)) refl t
   where
-    go : (result : Result) → reading magic sheet (r .bytes) ≡ result → T (passes-read result (r .outcome)) → Holds r
+    go : (result : Result) → read-sheet (r .bytes) ≡ result → T (passes-read result (r .outcome)) → Holds r
     go (elements numbers) e t = record { numbers = numbers; read = e; says = passes-says numbers (r .outcome) t }
     go (refused why) e t = absurd t
 

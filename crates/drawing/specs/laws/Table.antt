@@ -5,6 +5,7 @@ use Rattle.leb128.specs.Grammar.{within, both}
 use Rattle.leb128.specs.Source.{decoded-item, byte-item, raised, in-bytes}
 use Rattle.leb128.specs.Walk.{checked, led, followed, walk}
 use Rattle.leb128.specs.Format.{same, complete, walk-bytes, made, reading}
+use Rattle.sheet.specs.Reading.{read-sheet}
 use Rattle.sheet.specs.Grammar.{crossed, separation, separations, layers, edge, edges, sheet}
 use Rattle.drawing.specs.Sheet.{sheet-of}
 use Rattle.drawing.specs.Drawing.{is-drawing, total-length}
@@ -20,5 +21,5 @@ use Rattle.drawing.specs.laws.Rows.{every}
 
 -- every row holds
 pub sheets : Every table
-unfolding flatMap table sheet-of total-length is-drawing meets-rules bound judged constraints held-set leftmost-test shows-none decode grouped within both crossed separation separations layers edge edges sheet decoded-item byte-item raised in-bytes checked led followed walk same complete walk-bytes made reading
+unfolding flatMap table sheet-of total-length is-drawing meets-rules bound judged constraints held-set leftmost-test shows-none decode grouped within both crossed separation separations layers edge edges sheet decoded-item byte-item raised in-bytes checked led followed walk same complete walk-bytes made reading read-sheet
 sheets = every table tt

@@ -9,8 +9,8 @@ use Rattle.leb128.specs.Refusals.{slice-short}
 use Rattle.leb128.specs.Source.{refusal}
 use Rattle.leb128.specs.Format.{Result, reading}
 use Rattle.leb128.specs.declared.Refusal.{Refusal}
-use Rattle.sheet.specs.Limits.{magic}
 use Rattle.sheet.specs.Grammar.{sheet}
+use Rattle.sheet.specs.Reading.{read-sheet}
 use Rattle.network.specs.Network.{Network, Feasible, integers}
 use Rattle.network.specs.Net.{at, net, meant}
 use Rattle.drawing.specs.Sheet.{sheet-of}
@@ -94,13 +94,13 @@ is-started a m n nodes zero g e = g
 is-started a m n nodes (suc k) g e = absurd (omega arith)
 
 -- the refusal of reading
-pub refused-drawn : (bytes p : List ℕ) (y : List ℤ) {r : Refusal} → reading magic sheet bytes ≡ Result.refused r
-    → Draws (reading magic sheet bytes) p y p y (result (Refused r))
+pub refused-drawn : (bytes p : List ℕ) (y : List ℤ) {r : Refusal} → read-sheet bytes ≡ Result.refused r
+    → Draws (read-sheet bytes) p y p y (result (Refused r))
 unfolding Draws result
 refused-drawn bytes p y e = rw e (refl, (refl, refl))
 
 -- a sheet that was loaded
 pub loaded-drawn : {bytes old new : List ℕ} {c : Counts} (l : LoadedSheet bytes old new c) (p₀ : List ℕ) (y₀ : List ℤ) (p : List ℕ) (y : List ℤ) (d : Drawn)
-    → DrawsHeld new c p₀ y₀ p y d → Draws (reading magic sheet bytes) p₀ y₀ p y d
+    → DrawsHeld new c p₀ y₀ p y d → Draws (read-sheet bytes) p₀ y₀ p y d
 unfolding Draws
 loaded-drawn l p₀ y₀ p y d g = subst (λ (x : Result). Draws x p₀ y₀ p y d) (sym (holds-reads l)) (g (loaded-holds l))

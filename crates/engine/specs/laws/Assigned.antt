@@ -6,11 +6,11 @@ use mathlib.Core.List.{List}
 use native.Mathlib.Omega.{arith}
 use lib.IntN.{ℤ}
 use lib.ListN.{length, take}
-use Rattle.leb128.specs.Format.{Result, reading}
+use Rattle.leb128.specs.Format.{Result}
 use Rattle.leb128.specs.Format.Result.{elements}
 use Rattle.leb128.specs.declared.Refusal.{Refusal}
-use Rattle.sheet.specs.Limits.{magic}
 use Rattle.sheet.specs.Grammar.{sheet}
+use Rattle.sheet.specs.Reading.{read-sheet}
 use Rattle.sheet.specs.laws.Sheets.{read-accepted}
 use Rattle.network.specs.Network.{integers}
 use Rattle.drawing.specs.Sheet.{sheet-of}
@@ -24,9 +24,9 @@ use Rattle.engine.specs.Draws.{Drawn, Room, Refuses, DrawsSheet, Draws}
 use Rattle.engine.specs.laws.Refusals.{refused-none}
 use Rattle.engine.specs.Draws.Refuses.{few-places, few-numbers, none, passes}
 
-module _ (bytes numbers : List ℕ) (read : reading magic sheet bytes ≡ elements numbers) (p₀ : List ℕ) (y₀ : List ℤ) (p : List ℕ) (y : List ℤ) where
+module _ (bytes numbers : List ℕ) (read : read-sheet bytes ≡ elements numbers) (p₀ : List ℕ) (y₀ : List ℤ) (p : List ℕ) (y : List ℤ) where
   -- where 8 is answered, no assignment exists
-  pub none-assigned : (r : Refusal) → r .number ≡ none-exists → Draws (reading magic sheet bytes) p₀ y₀ p y (Drawn.refused r)
+  pub none-assigned : (r : Refusal) → r .number ≡ none-exists → Draws (read-sheet bytes) p₀ y₀ p y (Drawn.refused r)
       → (x : List ℤ) → Assignment (sheet-of numbers) x → ⊥
   unfolding Draws
   none-assigned r e d x a = go (meets .0) e
@@ -41,7 +41,7 @@ module _ (bytes numbers : List ℕ) (read : reading magic sheet bytes ≡ elemen
       go (passes q k b h) e = omega arith
 
   -- what is drawn is a least assignment
-  pub drawn-assigned : (total : ℕ) → Draws (reading magic sheet bytes) p₀ y₀ p y (Drawn.drawn total)
+  pub drawn-assigned : (total : ℕ) → Draws (read-sheet bytes) p₀ y₀ p y (Drawn.drawn total)
       → LeastAssignment (sheet-of numbers) (integers (take (sheet-of numbers .nodes) p))
   unfolding Draws
   drawn-assigned total d =
@@ -50,7 +50,7 @@ module _ (bytes numbers : List ℕ) (read : reading magic sheet bytes ≡ elemen
 
   -- where an assignment exists and the slices are long enough, a drawing is returned
   pub assigned-drawn : (x : List ℤ) → Assignment (sheet-of numbers) x → Room (sheet-of numbers) (length p₀) (length y₀)
-      → (d : Drawn) → Draws (reading magic sheet bytes) p₀ y₀ p y d → (total : ℕ) × (d ≡ Drawn.drawn total)
+      → (d : Drawn) → Draws (read-sheet bytes) p₀ y₀ p y d → (total : ℕ) × (d ≡ Drawn.drawn total)
   unfolding Draws
   assigned-drawn x a room (Drawn.drawn total) g = (total, refl)
   assigned-drawn x a room (Drawn.refused r) g =

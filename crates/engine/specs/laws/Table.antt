@@ -10,10 +10,10 @@ use lib.IntN.{ℤ}
 use lib.ListN.{length, take}
 use lib.Seq.{take-all}
 use Rattle.leb128.specs.Source.{refusal}
-use Rattle.leb128.specs.Format.{Result, reading}
+use Rattle.leb128.specs.Format.{Result}
 use Rattle.leb128.specs.Format.Result.{elements}
-use Rattle.sheet.specs.Limits.{magic}
 use Rattle.sheet.specs.Grammar.{sheet}
+use Rattle.sheet.specs.Reading.{read-sheet}
 use Rattle.sheet.specs.laws.Sheets.{read-accepted}
 use Rattle.drawing.specs.Sheet.{Sheet, sheet-of}
 use Rattle.drawing.specs.Proper.{Proper}
@@ -49,8 +49,8 @@ none-answer S p₀ y₀ p y proper room n (Drawn.refused r) g =
     ap₂ (λ (k o : ℕ). Drawn.refused (record { number = k; offset = o })) (refused-none S (length p₀) (length y₀) proper room (g .0) .0) (g .1)
 
 -- the checker's word on places and a list of just the needed lengths
-check-word : (bytes numbers p : List ℕ) (y : List ℤ) (b : Bool) → reading magic sheet bytes ≡ elements numbers → length p ≡ sheet-of numbers .nodes
-    → length y ≡ certificate-size (sheet-of numbers) → judged (sheet-of numbers) p y ≡ b → check-answer (reading magic sheet bytes) p y ≡ said b
+check-word : (bytes numbers p : List ℕ) (y : List ℤ) (b : Bool) → read-sheet bytes ≡ elements numbers → length p ≡ sheet-of numbers .nodes
+    → length y ≡ certificate-size (sheet-of numbers) → judged (sheet-of numbers) p y ≡ b → check-answer (read-sheet bytes) p y ≡ said b
 unfolding check-answer
 check-word bytes numbers p y b read places list e =
     rw read

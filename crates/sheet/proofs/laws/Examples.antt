@@ -12,20 +12,21 @@ use Rattle.leb128.specs.Format.Result.{elements, refused}
 use Rattle.sheet.specs.Refusals.{separations-crossed}
 use Rattle.sheet.specs.Limits.{magic}
 use Rattle.sheet.specs.Grammar.{crossed, separation, separations, layers, edge, edges, sheet}
+use Rattle.sheet.specs.Reading.{read-sheet}
 
 -- what is read from these bytes behind the opening
 read-behind : List ℕ → Result
-unfolding decode grouped within both crossed separation separations layers edge edges sheet decoded-item byte-item raised in-bytes checked led followed walk same complete walk-bytes made reading
-read-behind bytes = reading magic sheet (magic ++ bytes)
+unfolding decode grouped within both crossed separation separations layers edge edges sheet decoded-item byte-item raised in-bytes checked led followed walk same complete walk-bytes made reading read-sheet
+read-behind bytes = read-sheet (magic ++ bytes)
 
 -- two bytes are too few
-ended : reading magic sheet (0x53 ∷ 0x50 ∷ []) ≡ refused (refusal input-ended 2)
-unfolding same walk-bytes complete made reading
+ended : read-sheet (0x53 ∷ 0x50 ∷ []) ≡ refused (refusal input-ended 2)
+unfolding same walk-bytes complete made reading read-sheet
 ended = refl
 
 -- another opening
-other-magic : reading magic sheet (0x53 ∷ 0x51 ∷ 0x31 ∷ []) ≡ refused (refusal other-opening 0)
-unfolding same walk-bytes complete made reading
+other-magic : read-sheet (0x53 ∷ 0x51 ∷ 0x31 ∷ []) ≡ refused (refusal other-opening 0)
+unfolding same walk-bytes complete made reading read-sheet
 other-magic = refl
 
 -- 80 00 is not the fewest bytes

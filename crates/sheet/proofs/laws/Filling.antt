@@ -8,7 +8,7 @@ use Rattle.leb128.specs.Limits.{list-limit}
 use Rattle.leb128.specs.Grammar.{Form, Grammar, plain}
 use Rattle.leb128.specs.Source.{Item, item, byte-item, in-bytes}
 use Rattle.leb128.specs.Source.Item.{value}
-use Rattle.leb128.specs.Format.{reading, filled}
+use Rattle.leb128.specs.Format.{filled}
 use Rattle.leb128.specs.Format.Result.{elements}
 use Rattle.leb128.specs.laws.EachNumber.{Each}
 use Rattle.leb128.specs.laws.EachNumber.Each.{end, each}
@@ -20,6 +20,7 @@ use Rattle.leb128.specs.declared.Found.{Found}
 use Rattle.leb128.specs.declared.Found.the-variants.{Value, Refused}
 use Rattle.sheet.specs.Limits.{magic}
 use Rattle.sheet.specs.Grammar.{sheet}
+use Rattle.sheet.specs.Reading.{read-sheet}
 use Rattle.sheet.specs.inside.Passes.{Holds}
 use Rattle.sheet.specs.laws.SheetNumbers.{SheetNumber, each-sheet}
 use Rattle.sheet.proofs.laws.Steps.{plain-raised}
@@ -46,7 +47,7 @@ chain-row bytes (each {form = form} p s) (more {at = at} {n = n} ok i chain) =
 -- i of count numbers are written, and the rest stands in the bytes from a position on
 pub record FillLeft (bytes : List ℕ) (count : ℕ) (old new : List ℕ) (at i : ℕ) : Type 0 where
   pub wanted : List ℕ
-  pub reads : reading magic sheet bytes ≡ elements wanted
+  pub reads : read-sheet bytes ≡ elements wanted
   pub counted : count ≡ length wanted
   pub rest : List ℕ
   pub row : Row bytes at rest
@@ -55,6 +56,7 @@ pub record FillLeft (bytes : List ℕ) (count : ℕ) (old new : List ℕ) (at i 
 -- nothing is written at the start
 pub fill-begin : {bytes : List ℕ} {count : ℕ} (old : List ℕ) → Holds bytes count → count ≤ length old
     → FillLeft bytes count old old (length magic) 0
+unfolding read-sheet
 fill-begin {bytes} {count} old h room =
     record {
       wanted = h .numbers;
@@ -72,10 +74,10 @@ pub record FillNext (bytes : List ℕ) (count : ℕ) (old new : List ℕ) (i n a
 
 module _ {bytes : List ℕ} {count : ℕ} {old new : List ℕ} {at i : ℕ} (left : FillLeft bytes count old new at i) where
   -- all numbers are written
-  pub fill-end : count ≤ i → new ≡ filled (reading magic sheet bytes) old
+  pub fill-end : count ≤ i → new ≡ filled (read-sheet bytes) old
   fill-end h = go (left .rest) (left .written)
     where
-      go : (rest : List ℕ) → Written (left .wanted) old new rest i → new ≡ filled (reading magic sheet bytes) old
+      go : (rest : List ℕ) → Written (left .wanted) old new rest i → new ≡ filled (read-sheet bytes) old
       go [] w =
           let e = written-end w in
           (rw (e .1) at (e .0)) ∙ sym (filled-elements old (left .reads) (w .fits))

@@ -6,7 +6,7 @@ use native.Mathlib.Omega.{arith}
 use lib.ListN.{length, getD, drop, length-append}
 use Rattle.leb128.specs.Limits.{number-limit}
 use Rattle.leb128.specs.Grammar.{Grammar, Accepts}
-use Rattle.leb128.specs.Format.{Result, reading, writing, answered, filled, outcome}
+use Rattle.leb128.specs.Format.{Result, answered, filled, outcome}
 use Rattle.leb128.specs.Format.Result.{elements}
 use Rattle.leb128.specs.laws.EachNumber.{Each}
 use Rattle.leb128.specs.laws.EachNumber.Each.{end, each}
@@ -17,6 +17,7 @@ use Rattle.leb128.specs.declared.Answer.{Answer}
 use Rattle.leb128.specs.declared.Answer.the-variants.{Done, Refused}
 use Rattle.sheet.specs.Limits.{magic}
 use Rattle.sheet.specs.Grammar.{sheet}
+use Rattle.sheet.specs.Reading.{read-sheet, write-sheet}
 use Rattle.sheet.specs.inside.Passes.{Holds, encode-all}
 use Rattle.sheet.specs.laws.SheetNumbers.{SheetNumber, each-sheet}
 use Rattle.sheet.proofs.laws.Settling.{flat}
@@ -36,19 +37,19 @@ below-limit (each p s) (one {n = n} ok rest) (suc i) = below-limit (s n ok) rest
 
 module _ {answer : Answer} {count : ℕ} (old : List ℕ) (is-done : answer ≡ Done count) where
   -- the bytes are good, and their numbers have room
-  pub read-done : (bytes : List ℕ) → outcome answer ≡ answered (length old) (reading magic sheet bytes)
+  pub read-done : (bytes : List ℕ) → outcome answer ≡ answered (length old) (read-sheet bytes)
       → Holds bytes count × (count ≤ length old)
   unfolding outcome
   read-done bytes e =
-      let w = answered-wrote (length old) (reading magic sheet bytes) count (sym e ∙ ap outcome is-done) in
+      let w = answered-wrote (length old) (read-sheet bytes) count (sym e ∙ ap outcome is-done) in
       (record { numbers = w .0; reads = w .1; counted = w .2 }, omega (arith, w .2, w .3))
 
-  module _ (numbers : List ℕ) (e : outcome answer ≡ answered (length old) (writing magic sheet numbers)) where
+  module _ (numbers : List ℕ) (e : outcome answer ≡ answered (length old) (write-sheet numbers)) where
     -- the list is good, and its sheet has room
-    pub write-done : (writing magic sheet numbers ≡ elements (magic ++ encode-all numbers)) × ((i : ℕ) → getD numbers i 0 < number-limit) × (length magic + length (encode-all numbers) ≤ length old)
-    unfolding outcome
+    pub write-done : (write-sheet numbers ≡ elements (magic ++ encode-all numbers)) × ((i : ℕ) → getD numbers i 0 < number-limit) × (length magic + length (encode-all numbers) ≤ length old)
+    unfolding outcome write-sheet
     write-done =
-        let w = answered-wrote (length old) (writing magic sheet numbers) count (sym e ∙ ap outcome is-done) in
+        let w = answered-wrote (length old) (write-sheet numbers) count (sym e ∙ ap outcome is-done) in
         let g = good-writing magic sheet numbers (w .0) (w .1) in
         let are : w .0 ≡ magic ++ encode-all numbers = g .1 ∙ ap (λ (l : List ℕ). magic ++ l) (flat each-sheet (g .0)) in
         (w .1 ∙ ap elements are, below-limit each-sheet (g .0), omega (arith, w .3, ap length are, length-append magic (encode-all numbers)))
@@ -56,7 +57,7 @@ module _ {answer : Answer} {count : ℕ} (old : List ℕ) (is-done : answer ≡ 
     -- the sheet is written in front of the old bytes
     pub write-filled : {new : List ℕ}
         → new ≡ (magic ++ encode-all numbers) ++ drop (length (magic ++ encode-all numbers)) old
-        → new ≡ filled (writing magic sheet numbers) old
+        → new ≡ filled (write-sheet numbers) old
     write-filled n =
         n
         ∙ sym

@@ -26,6 +26,7 @@ use Rattle.leb128.specs.laws.GoodFormat.{complete-good}
 use Rattle.leb128.specs.declared.Refusal.{Refusal}
 use Rattle.sheet.specs.Limits.{magic}
 use Rattle.sheet.specs.Grammar.{sheet}
+use Rattle.sheet.specs.Reading.{read-sheet, write-sheet}
 use Rattle.sheet.specs.inside.Cursor.{Measure, weigh, measured, ended, settled, walked}
 use Rattle.sheet.specs.inside.Passes.{encode-all}
 use Rattle.sheet.specs.laws.SheetNumbers.{SheetNumber, each-sheet}
@@ -104,8 +105,8 @@ flat (each {form = form} p s) (one {n = n} {ns = ns} ok rest) = rw (plain-held f
 -- what reading answers
 pub read-settled : (bytes : List ℕ) (room : ℕ) {step : Measure} {answer : Outcome}
     → step ≡ measured true 0 (walk-bytes magic sheet bytes) → answer ≡ settled room (ended (length bytes) step)
-    → answer ≡ answered room (reading magic sheet bytes)
-unfolding reading
+    → answer ≡ answered room (read-sheet bytes)
+unfolding reading read-sheet
 read-settled bytes room s a =
     a ∙ (ap (λ (m : Measure). settled room (ended (length bytes) m)) s
     ∙ (ap (settled room) (measured-complete true 0 (length bytes) (walk-bytes magic sheet bytes))
@@ -123,8 +124,8 @@ list-accepts numbers at ns e =
 -- what writing answers
 pub write-settled : (numbers : List ℕ) (room : ℕ) {step : Measure} {answer : Outcome}
     → step ≡ measured false (length magic) (walk-list sheet numbers)
-    → answer ≡ settled room (ended (length numbers) step) → answer ≡ answered room (writing magic sheet numbers)
-unfolding writing
+    → answer ≡ settled room (ended (length numbers) step) → answer ≡ answered room (write-sheet numbers)
+unfolding writing write-sheet
 write-settled numbers room s a =
     a ∙ (ap (λ (m : Measure). settled room (ended (length numbers) m)) s
     ∙ (ap (settled room) (measured-complete false (length magic) (length numbers) (walk-list sheet numbers))

@@ -3,8 +3,8 @@ use mathlib.Core.Path.{sym, _∙_, ap}
 use Rattle.sheet.proofs.laws.SecondPass.{refused-kept, read-done}
 use Rattle.sheet.proofs.laws.Settling.{read-settled}
 use Rattle.sheet.specs.Grammar.{sheet}
-use Rattle.sheet.specs.Limits.{magic}
-use Rattle.leb128.specs.Format.{outcome, reading}
+use Rattle.sheet.specs.Reading.{read-sheet}
+use Rattle.leb128.specs.Format.{outcome}
 use denote.Ref.{now}
 use borrow.Author.Needs.{needs}
 use Rattle.sheet.proofs.read.Statement.{statement}
@@ -29,7 +29,7 @@ returns c =
     (read-settled (now (start .args .bytes)) _ (c .before .before .before .walk-bytes .ensures)
     (c .before .before .settle .ensures)) in (
       a,
-      refused-kept (reading magic sheet (now (start .args .bytes))) (now (start .args .numbers)) a
+      refused-kept (read-sheet (now (start .args .bytes))) (now (start .args .numbers)) a
           (c .enum-told .given .1),
     )
 

@@ -2,8 +2,7 @@
 use Rattle.sheet.proofs.laws.SecondPass.{refused-kept, write-done, write-filled}
 use Rattle.sheet.proofs.laws.Settling.{write-settled}
 use Rattle.sheet.specs.Grammar.{sheet}
-use Rattle.sheet.specs.Limits.{magic}
-use Rattle.leb128.specs.Format.{writing}
+use Rattle.sheet.specs.Reading.{write-sheet}
 use denote.Ref.{now}
 use borrow.Author.Needs.{needs}
 use Rattle.sheet.proofs.write.Statement.{statement}
@@ -28,7 +27,7 @@ returns c =
     (write-settled (now (start .args .numbers)) _ (c .before .before .before .walk-list .ensures)
     (c .before .before .settle .ensures)) in (
       a,
-      refused-kept (writing magic sheet (now (start .args .numbers))) (now (start .args .bytes)) a
+      refused-kept (write-sheet (now (start .args .numbers))) (now (start .args .bytes)) a
           (c .enum-told2 .given .1),
     )
 

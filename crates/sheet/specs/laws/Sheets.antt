@@ -9,7 +9,7 @@ use lib.ListN.{length, take}
 use Rattle.leb128.specs.Grammar.{Form, Rule, Accepts}
 use Rattle.leb128.specs.Source.{Source}
 use Rattle.leb128.specs.Walk.{asked}
-use Rattle.leb128.specs.Format.{Result, Outcome, encoded, reading, writing, answered}
+use Rattle.leb128.specs.Format.{Result, Outcome, encoded, reading, answered}
 use Rattle.leb128.specs.Format.Result.{elements}
 use Rattle.leb128.specs.Number.{AreBytes}
 use Rattle.leb128.specs.laws.EachNumber.{each-map, most-asked as format-most-asked}
@@ -22,6 +22,7 @@ use Rattle.leb128.specs.laws.RefusalsGiven.{reader-gives, writer-gives}
 use Rattle.leb128.specs.declared.Refusal.{Refusal}
 use Rattle.sheet.specs.Limits.{magic, max-numbers, max-bytes}
 use Rattle.sheet.specs.Grammar.{sheet}
+use Rattle.sheet.specs.Reading.{read-sheet, write-sheet}
 use Rattle.sheet.specs.laws.SheetNumbers.{SheetNumber, each-sheet}
 use Rattle.sheet.specs.Refusals.{WriterRefusal, FormatRefusal}
 use Rattle.sheet.specs.Refusals.WriterRefusal.{ended, outside, apart, follows, short}
@@ -34,25 +35,30 @@ fits form rule p n ok = rw (p .is-plain) (omega arith, omega (arith, p .small n 
 
 -- the number lists that are written are those that the grammar accepts: the good ones
 pub accepted-written : (numbers : List ℕ) → Accepts sheet numbers
-    → writing magic sheet numbers ≡ elements (magic ++ encoded sheet numbers)
+    → write-sheet numbers ≡ elements (magic ++ encoded sheet numbers)
+unfolding write-sheet
 accepted-written = format-accepted-written magic sheet
 
 -- a list that is written is good
-pub written-accepted : (numbers bytes : List ℕ) → writing magic sheet numbers ≡ elements bytes → Accepts sheet numbers
+pub written-accepted : (numbers bytes : List ℕ) → write-sheet numbers ≡ elements bytes → Accepts sheet numbers
+unfolding write-sheet
 written-accepted numbers bytes e = good-writing magic sheet numbers bytes e .0
 
 -- numbers that are read are a good list
-pub read-accepted : (bytes numbers : List ℕ) → reading magic sheet bytes ≡ elements numbers → Accepts sheet numbers
+pub read-accepted : (bytes numbers : List ℕ) → read-sheet bytes ≡ elements numbers → Accepts sheet numbers
+unfolding read-sheet
 read-accepted bytes numbers e = chain-accepts (good-reading magic sheet bytes numbers e .good .chain)
 
 -- one to one: every list that is written is read back as itself
-pub read-written : (numbers bytes : List ℕ) → writing magic sheet numbers ≡ elements bytes
-    → reading magic sheet bytes ≡ elements numbers
+pub read-written : (numbers bytes : List ℕ) → write-sheet numbers ≡ elements bytes
+    → read-sheet bytes ≡ elements numbers
+unfolding read-sheet write-sheet
 read-written = format-read-written magic sheet (each-map fits each-sheet)
 
 -- one to one: every byte string that is read is written again with the same bytes
-pub write-read : (bytes numbers : List ℕ) → AreBytes bytes → reading magic sheet bytes ≡ elements numbers
-    → writing magic sheet numbers ≡ elements bytes
+pub write-read : (bytes numbers : List ℕ) → AreBytes bytes → read-sheet bytes ≡ elements numbers
+    → write-sheet numbers ≡ elements bytes
+unfolding read-sheet write-sheet
 write-read = format-write-read magic sheet
 
 -- a walk over any source asks for at most 2,559 numbers, refused or not
@@ -68,21 +74,24 @@ pub good-layout : (numbers : List ℕ) → Accepts sheet numbers → LaidOut num
 good-layout = laid-out
 
 -- a good sheet has at most 5,121 bytes
-pub most-bytes : (bytes numbers : List ℕ) → reading magic sheet bytes ≡ elements numbers → length bytes ≤ max-bytes
+pub most-bytes : (bytes numbers : List ℕ) → read-sheet bytes ≡ elements numbers → length bytes ≤ max-bytes
+unfolding read-sheet
 most-bytes = format-most-bytes magic each-sheet
 
 -- reading depends on the first 5,122 bytes only
-pub first-bytes : (bytes : List ℕ) → reading magic sheet (take (max-bytes + 1) bytes) ≡ reading magic sheet bytes
+pub first-bytes : (bytes : List ℕ) → read-sheet (take (max-bytes + 1) bytes) ≡ read-sheet bytes
+unfolding read-sheet
 first-bytes = front-reading magic each-sheet
 
 -- so bytes that agree on them are read alike, and so is whatever starts with reading
 pub read-alike : (one other : List ℕ) → take (max-bytes + 1) one ≡ take (max-bytes + 1) other
-    → reading magic sheet one ≡ reading magic sheet other
-read-alike one other e = sym (first-bytes one) ∙ (ap (reading magic sheet) e ∙ first-bytes other)
+    → read-sheet one ≡ read-sheet other
+read-alike one other e = sym (first-bytes one) ∙ (ap read-sheet e ∙ first-bytes other)
 
 -- the writer gives refusals 1, 4, 5, 6 and 7 only
 pub writer-refusals : (numbers : List ℕ) (room : ℕ) (r : Refusal)
-    → answered room (writing magic sheet numbers) ≡ Outcome.refused r → WriterRefusal (r .number)
+    → answered room (write-sheet numbers) ≡ Outcome.refused r → WriterRefusal (r .number)
+unfolding write-sheet
 writer-refusals = writer-gives WriterRefusal ended follows short (each-map (λ form rule p. p .gives) each-sheet) magic
 
 -- the writer's are among them
@@ -94,15 +103,18 @@ writer-given follows = (omega arith, omega arith)
 writer-given short = (omega arith, omega arith)
 
 -- and so are the reader's
-pub reader-refusals : (bytes : List ℕ) (r : Refusal) → reading magic sheet bytes ≡ Result.refused r → FormatRefusal (r .number)
+pub reader-refusals : (bytes : List ℕ) (r : Refusal) → read-sheet bytes ≡ Result.refused r → FormatRefusal (r .number)
+unfolding read-sheet
 reader-refusals =
     reader-gives FormatRefusal (omega arith, omega arith) (omega arith, omega arith) (omega arith, omega arith) (omega arith, omega arith)
     (each-map (λ form rule p n. ⊎-elim (λ (z : rule n ≡ 0). inl z) (λ (w : WriterRefusal (rule n)). inr (writer-given w)) (p .gives n)) each-sheet) magic
 
 -- the reader refuses at an offset of at most 5,121
-pub reader-offsets : (bytes : List ℕ) (r : Refusal) → reading magic sheet bytes ≡ Result.refused r → r .offset ≤ max-bytes
+pub reader-offsets : (bytes : List ℕ) (r : Refusal) → read-sheet bytes ≡ Result.refused r → r .offset ≤ max-bytes
+unfolding read-sheet
 reader-offsets = format-reader-offsets each-sheet magic
 
 -- the writer refuses at an index of at most 2,559
-pub writer-offsets : (numbers : List ℕ) (r : Refusal) → writing magic sheet numbers ≡ Result.refused r → r .offset ≤ max-numbers
+pub writer-offsets : (numbers : List ℕ) (r : Refusal) → write-sheet numbers ≡ Result.refused r → r .offset ≤ max-numbers
+unfolding write-sheet
 writer-offsets = format-writer-offsets each-sheet magic

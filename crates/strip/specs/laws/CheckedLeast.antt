@@ -4,9 +4,8 @@ use mathlib.Core.Path.{_≡_, refl}
 use mathlib.Core.List.{List}
 use native.Mathlib.Omega.{arith}
 use lib.IntN.{ℤ}
-use Rattle.leb128.specs.Format.{reading}
-use Rattle.sheet.specs.Limits.{magic}
 use Rattle.sheet.specs.Grammar.{sheet}
+use Rattle.sheet.specs.Reading.{read-sheet}
 use Rattle.checker.specs.Verdict.{Judgement, check-answer}
 use Rattle.checker.specs.Shown.{ShownLeast}
 use Rattle.checker.specs.laws.Accepted.{accepted-least}
@@ -15,12 +14,12 @@ use Rattle.strip.specs.Words.{packed, judgement-word}
 
 -- where the word is that of yes, the places are a drawing and every drawing of the sheet has at least as large a total
 pub yes-word-least : (bytes places : List ℕ) (list : List ℤ)
-    → judgement-word (check-answer (reading magic sheet bytes) places list) ≡ packed 0 1 → ShownLeast (reading magic sheet bytes) places
+    → judgement-word (check-answer (read-sheet bytes) places list) ≡ packed 0 1 → ShownLeast (read-sheet bytes) places
 unfolding judgement-word
-yes-word-least bytes places list w = go (check-answer (reading magic sheet bytes) places list) refl w
+yes-word-least bytes places list w = go (check-answer (read-sheet bytes) places list) refl w
   where
-    go : (j : Judgement) → check-answer (reading magic sheet bytes) places list ≡ j → judgement-word j ≡ packed 0 1
-        → ShownLeast (reading magic sheet bytes) places
+    go : (j : Judgement) → check-answer (read-sheet bytes) places list ≡ j → judgement-word j ≡ packed 0 1
+        → ShownLeast (read-sheet bytes) places
     go Judgement.accepted e w = accepted-least bytes places list e
     go Judgement.rejected e w = absurd (omega arith)
     go (Judgement.refused r) e w = absurd (omega (arith, check-refusals bytes places list r e .number-in .0))

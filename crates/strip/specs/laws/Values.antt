@@ -12,8 +12,9 @@ use Rattle.leb128.specs.declared.Refusal.{Refusal}
 use Rattle.leb128.specs.Format.{Result, Outcome, answered, reading, writing}
 use Rattle.leb128.specs.Format.Result.{elements}
 use Rattle.leb128.specs.laws.Cases.{lt-or-le}
-use Rattle.sheet.specs.Limits.{magic, max-bytes}
+use Rattle.sheet.specs.Limits.{max-bytes}
 use Rattle.sheet.specs.Grammar.{sheet}
+use Rattle.sheet.specs.Reading.{read-sheet, write-sheet}
 use Rattle.sheet.specs.laws.Sheets.{read-accepted, most-numbers, most-bytes, read-written, writer-refusals, writer-given, reader-refusals, reader-offsets, writer-offsets}
 use Rattle.sheet.specs.Refusals.{FormatRefusal}
 use Rattle.drawing.specs.Sheet.{Sheet, sheet-of}
@@ -48,18 +49,18 @@ unfolding answered
 refused-held room r h = h
 
 -- of reading
-pub reading-held : (bytes : List ℕ) (room : ℕ) → HeldOutcome (answered room (reading magic sheet bytes))
-reading-held bytes room = go (reading magic sheet bytes) refl
+pub reading-held : (bytes : List ℕ) (room : ℕ) → HeldOutcome (answered room (read-sheet bytes))
+reading-held bytes room = go (read-sheet bytes) refl
   where
-    go : (read : Result) → reading magic sheet bytes ≡ read → HeldOutcome (answered room read)
+    go : (read : Result) → read-sheet bytes ≡ read → HeldOutcome (answered room read)
     go (elements numbers) e = elements-held room numbers (omega (arith, most-numbers numbers (read-accepted bytes numbers e)))
     go (Result.refused r) e = refused-held room r (given-held r (reader-refusals bytes r e) (reader-offsets bytes r e))
 
 -- of writing
-pub writing-held : (numbers : List ℕ) (room : ℕ) → HeldOutcome (answered room (writing magic sheet numbers))
-writing-held numbers room = go (writing magic sheet numbers) refl
+pub writing-held : (numbers : List ℕ) (room : ℕ) → HeldOutcome (answered room (write-sheet numbers))
+writing-held numbers room = go (write-sheet numbers) refl
   where
-    go : (written : Result) → writing magic sheet numbers ≡ written → HeldOutcome (answered room written)
+    go : (written : Result) → write-sheet numbers ≡ written → HeldOutcome (answered room written)
     go (elements bytes) e = elements-held room bytes (omega (arith, most-bytes bytes numbers (read-written numbers bytes e)))
     go (Result.refused r) e =
         refused-held room r (given-held r (writer-given (writer-refusals numbers room r (rw e (refused-answer room r)))) (omega (arith, writer-offsets numbers r e)))
@@ -78,19 +79,19 @@ sheet-held S p₀ y₀ p y (Drawn.refused r) h = record { numbered = numbered (h
 
 -- of drawing
 pub drawing-held : (bytes p₀ : List ℕ) (y₀ : List ℤ) (p : List ℕ) (y : List ℤ) (d : Drawn)
-    → Draws (reading magic sheet bytes) p₀ y₀ p y d → HeldDrawn d
+    → Draws (read-sheet bytes) p₀ y₀ p y d → HeldDrawn d
 unfolding Draws
-drawing-held bytes p₀ y₀ p y d h = go (reading magic sheet bytes) refl h
+drawing-held bytes p₀ y₀ p y d h = go (read-sheet bytes) refl h
   where
-    go : (read : Result) → reading magic sheet bytes ≡ read → Draws read p₀ y₀ p y d → HeldDrawn d
+    go : (read : Result) → read-sheet bytes ≡ read → Draws read p₀ y₀ p y d → HeldDrawn d
     go (elements numbers) e h = sheet-held (sheet-of numbers) p₀ y₀ p y d h
     go (Result.refused r) e h = rw (h .0) (given-held r (reader-refusals bytes r e) (reader-offsets bytes r e))
 
 -- of checking
-pub checking-held : (bytes places : List ℕ) (list : List ℤ) → HeldJudgement (check-answer (reading magic sheet bytes) places list)
-checking-held bytes places list = go (check-answer (reading magic sheet bytes) places list) refl
+pub checking-held : (bytes places : List ℕ) (list : List ℤ) → HeldJudgement (check-answer (read-sheet bytes) places list)
+checking-held bytes places list = go (check-answer (read-sheet bytes) places list) refl
   where
-    go : (j : Judgement) → check-answer (reading magic sheet bytes) places list ≡ j → HeldJudgement j
+    go : (j : Judgement) → check-answer (read-sheet bytes) places list ≡ j → HeldJudgement j
     go Judgement.accepted e = omega arith
     go Judgement.rejected e = omega arith
     go (Judgement.refused r) e = let g = check-refusals bytes places list r e in given-held r (g .number-in) (g .offset-in)
