@@ -9,42 +9,39 @@ use Rattle.leb128.specs.Refusals.{slice-short}
 use Rattle.leb128.specs.Source.{refusal}
 use Rattle.leb128.specs.Format.{Result}
 use Rattle.leb128.specs.Format.Result.{elements}
-use Rattle.leb128.specs.declared.Refusal.{Refusal}
+use Rattle.leb128.specs.Reply.{Reply}
 use Rattle.drawing.specs.Sheet.{sheet-of}
 use Rattle.drawing.specs.Certificate.{certificate-size}
 use Rattle.drawing.specs.Judged.{judged}
 use Rattle.checker.specs.declared.Verdict.{Verdict}
 use Rattle.checker.specs.declared.Verdict.the-variants.{Yes, No, Refused}
 
--- yes, no, or the refusal
-pub data Judgement : Type 0 where
-  accepted : Judgement
-  rejected : Judgement
-  refused : Refusal → Judgement
+-- yes
+abbrev pub accepted : Reply Bool
+accepted = Reply.value true
 
--- what each case of the code's answer stands for
-unfoldable pub judgement : Verdict → Judgement
-judgement Yes = Judgement.accepted
-judgement No = Judgement.rejected
-judgement (Refused r) = Judgement.refused r
+-- no
+abbrev pub rejected : Reply Bool
+rejected = Reply.value false
 
--- the answer that a decision gives
-unfoldable pub said : Bool → Judgement
-said true = Judgement.accepted
-said false = Judgement.rejected
+-- what each case of the code's answer stands for: yes, no, or the refusal
+unfoldable pub judgement : Verdict → Reply Bool
+judgement Yes = accepted
+judgement No = rejected
+judgement (Refused r) = Reply.refused r
 
 -- refusal 7 where there are fewer places than nodes or fewer list elements than the certificate has, else the decision on
 -- so many of each: excess elements are not looked at
-unfoldable pub decided : ℕ → ℕ → (List ℕ → List ℤ → Bool) → List ℕ → List ℤ → Judgement
+unfoldable pub decided : ℕ → ℕ → (List ℕ → List ℤ → Bool) → List ℕ → List ℤ → Reply Bool
 decided nodes size decision places list =
-    cond (ltb (length places) nodes) (Judgement.refused (refusal slice-short 0))
-    (cond (ltb (length list) size) (Judgement.refused (refusal slice-short 0)) (said (decision (take nodes places) (take size list))))
+    cond (ltb (length places) nodes) (Reply.refused (refusal slice-short 0))
+    (cond (ltb (length list) size) (Reply.refused (refusal slice-short 0)) (Reply.value (decision (take nodes places) (take size list))))
 
 -- the answer on a sheet's numbers
-unfoldable pub judge-numbers : List ℕ → List ℕ → List ℤ → Judgement
+unfoldable pub judge-numbers : List ℕ → List ℕ → List ℤ → Reply Bool
 judge-numbers numbers = decided (sheet-of numbers .nodes) (certificate-size (sheet-of numbers)) (judged (sheet-of numbers))
 
 -- the answer, by what reading gives: its refusals come first
-unfoldable pub check-answer : Result → List ℕ → List ℤ → Judgement
+unfoldable pub check-answer : Result → List ℕ → List ℤ → Reply Bool
 check-answer (elements numbers) places list = judge-numbers numbers places list
-check-answer (Result.refused r) places list = Judgement.refused r
+check-answer (Result.refused r) places list = Reply.refused r

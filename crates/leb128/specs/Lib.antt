@@ -6,4 +6,5 @@ pub mod Source
 pub mod Walk
 pub mod Format
 pub mod Place
+pub mod Reply
 pub mod laws

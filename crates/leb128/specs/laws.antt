@@ -11,3 +11,4 @@ pub mod OneToOne
 pub mod Offsets
 pub mod FirstBytes
 pub mod RefusalsGiven
+pub mod ReplyCases

@@ -1,8 +1,9 @@
 -- Answers that a word holds: each value and each offset is below 2³², and each refusal has a number.
 use Prim.Native.Nat.{_<_}
+use mathlib.Core.Bool.{Bool}
 use Rattle.leb128.specs.declared.Refusal.{Refusal}
 use Rattle.leb128.specs.Format.{Outcome}
-use Rattle.checker.specs.Verdict.{Judgement}
+use Rattle.leb128.specs.Reply.{Reply}
 use Rattle.engine.specs.Draws.{Drawn}
 use Rattle.strip.specs.Words.{unit}
 
@@ -22,7 +23,6 @@ HeldDrawn (Drawn.drawn total) = total < unit
 HeldDrawn (Drawn.refused r) = Held r
 
 -- one of checking
-abbrev pub HeldJudgement : Judgement → Type 0
-HeldJudgement Judgement.accepted = 1 < unit
-HeldJudgement Judgement.rejected = 0 < unit
-HeldJudgement (Judgement.refused r) = Held r
+abbrev pub HeldJudgement : Reply Bool → Type 0
+HeldJudgement (Reply.value b) = 1 < unit
+HeldJudgement (Reply.refused r) = Held r

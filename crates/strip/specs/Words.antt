@@ -1,10 +1,11 @@
 -- The answer of each call as one word: the refusal's number times 2³², plus the value or the offset.
 use Prim.Native.Nat.{ℕ, _+_, _*_}
 use mathlib.Core.Path.{_≡_}
+use mathlib.Core.Bool.{Bool, true, false}
 use mathlib.Core.List.{List}
 use lib.IntN.{ℤ}
 use Rattle.leb128.specs.Format.{Result, Outcome}
-use Rattle.checker.specs.Verdict.{Judgement}
+use Rattle.leb128.specs.Reply.{Reply}
 use Rattle.engine.specs.Draws.{Drawn, Draws}
 
 -- 2³²
@@ -26,10 +27,10 @@ drawn-word (Drawn.drawn total) = packed 0 total
 drawn-word (Drawn.refused r) = packed (r .number) (r .offset)
 
 -- of checking: 1 for yes, 0 for no
-unfoldable pub judgement-word : Judgement → ℕ
-judgement-word Judgement.accepted = packed 0 1
-judgement-word Judgement.rejected = packed 0 0
-judgement-word (Judgement.refused r) = packed (r .number) (r .offset)
+unfoldable pub judgement-word : Reply Bool → ℕ
+judgement-word (Reply.value true) = packed 0 1
+judgement-word (Reply.value false) = packed 0 0
+judgement-word (Reply.refused r) = packed (r .number) (r .offset)
 
 -- a word tells what drawing a sheet answers, with the slices before and after
 abbrev pub DrawsWord : Result → List ℕ → List ℤ → List ℕ → List ℤ → ℕ → Type 0

@@ -10,6 +10,7 @@ use Rattle.leb128.specs.Refusals.{slice-short}
 use Rattle.leb128.specs.Source.{refusal}
 use Rattle.leb128.specs.Format.{Result, Outcome, outcome, reading, answered, filled}
 use Rattle.leb128.specs.Format.Result.{elements}
+use Rattle.leb128.specs.Reply.{Reply}
 use Rattle.leb128.specs.laws.GoodFormat.{answered-wrote, filled-elements}
 use Rattle.leb128.specs.declared.Refusal.{Refusal}
 use Rattle.leb128.specs.declared.Answer.{Answer}
@@ -24,10 +25,11 @@ use Rattle.drawing.specs.Sheet.{sheet-of, at-width}
 use Rattle.drawing.specs.Arcs.{network}
 use Rattle.drawing.specs.laws.Good.{Good}
 use Rattle.drawing.specs.laws.GoodNumbers.{accepts-good}
-use Rattle.arcs.specs.Loading.{Loading, loading, arcs-size, load-answer, load-slice}
+use Rattle.arcs.specs.Loading.{loading, arcs-size, counts-of, load-answer, load-slice}
 use Rattle.arcs.specs.Words.{Small}
 use Rattle.arcs.specs.inside.Plans.{Planned, written}
-use Rattle.arcs.specs.laws.Fitting.{counts-of, short-answer, short-slice, long-answer, long-slice}
+use Rattle.arcs.specs.laws.Fitting.{short-answer, short-slice, long-answer, long-slice}
+use Rattle.arcs.specs.declared.Counts.{Counts}
 use Rattle.arcs.specs.declared.Plan.{Plan}
 use Rattle.arcs.specs.declared.Loaded.the-variants as loaded
 use Rattle.arcs.proofs.laws.Fill.{plan-arcs, plan-nodes, plan-edges}
@@ -55,13 +57,13 @@ module _ {s first : List ℕ} {p : Plan} (g : Good max-nodes s) (planned : Plann
     width-is = sym (e .is)
 
     -- the sheet's counts are the plan's
-    counts : counts-of (sheet-of s) ≡ Loading.loaded (p .nodes) (p .edges) (p .edges + 2 * p .nodes) width
+    counts : counts-of (sheet-of s) ≡ record { nodes = p .nodes; edges = p .edges; arcs = p .edges + 2 * p .nodes; width = width }
     counts = cc (plan-nodes g planned, plan-edges g planned, plan-arcs g planned (sheet-of s .width), width-is)
 
     -- long enough: the answer
     pub long-enough-answer : loading (loaded.Sheet (record { nodes = p .nodes; edges = p .edges; arcs = p .edges + 2 * p .nodes; width = width })) ≡ load-answer (length a) (elements s)
     unfolding loading
-    long-enough-answer = sym (long-answer s (length a) (omega (arith, size-is)) ∙ counts)
+    long-enough-answer = sym (long-answer s (length a) (omega (arith, size-is)) ∙ ap Reply.value counts)
 
     -- long enough: the slice
     pub long-enough-slice : {b : List ℕ} → b ≡ written (network (at-width width (sheet-of s))) a → b ≡ load-slice (elements s) a
@@ -112,7 +114,7 @@ module _ {answer : Answer} (bytes old new : List ℕ) (e : outcome answer ≡ an
         accepts-good max-nodes (good-layout (take (count - 0) new) a .nodes) a
 
     -- the answer for them is the answer for the bytes
-    pub done-answer : (room : ℕ) {r : Loading} → r ≡ load-answer room (elements (take (count - 0) new))
+    pub done-answer : (room : ℕ) {r : Reply Counts} → r ≡ load-answer room (elements (take (count - 0) new))
         → r ≡ load-answer room (read-sheet bytes)
     done-answer room k = k ∙ ap (load-answer room) (sym reading-is)
 

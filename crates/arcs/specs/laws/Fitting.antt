@@ -7,19 +7,16 @@ use borrow.Author.Tests.{lt-ltb, le-ltb}
 use Rattle.leb128.specs.Refusals.{slice-short}
 use Rattle.leb128.specs.Source.{refusal}
 use Rattle.leb128.specs.Format.Result.{elements}
+use Rattle.leb128.specs.Reply.{Reply}
 use Rattle.network.specs.Packed.{packs, packed}
-use Rattle.drawing.specs.Sheet.{Sheet, sheet-of}
+use Rattle.drawing.specs.Sheet.{sheet-of}
 use Rattle.drawing.specs.Arcs.{network}
-use Rattle.arcs.specs.Loading.{Loading, arcs-size, fitted, load-answer, load-slice}
-
--- the counts of a sheet and its width
-abbrev pub counts-of : Sheet → Loading
-counts-of S = Loading.loaded (S .nodes) (length (S .edges)) (length (network S .arcs)) (S .width)
+use Rattle.arcs.specs.Loading.{arcs-size, counts-of, fitted, load-answer, load-slice}
 
 module _ (numbers : List ℕ) where
   -- too short: refusal 7
   pub short-answer : (room : ℕ) → room < arcs-size (sheet-of numbers)
-      → load-answer room (elements numbers) ≡ Loading.refused (refusal slice-short 0)
+      → load-answer room (elements numbers) ≡ Reply.refused (refusal slice-short 0)
   unfolding load-answer fitted
   short-answer room h = rw (lt-ltb room (arcs-size (sheet-of numbers)) h)
 
@@ -30,7 +27,7 @@ module _ (numbers : List ℕ) where
 
   -- long enough: the counts of the sheet
   pub long-answer : (room : ℕ) → arcs-size (sheet-of numbers) ≤ room
-      → load-answer room (elements numbers) ≡ counts-of (sheet-of numbers)
+      → load-answer room (elements numbers) ≡ Reply.value (counts-of (sheet-of numbers))
   unfolding load-answer fitted
   long-answer room h = rw (le-ltb room (arcs-size (sheet-of numbers)) h)
 

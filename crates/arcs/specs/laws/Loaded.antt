@@ -8,6 +8,8 @@ use native.Mathlib.Omega.{arith}
 use lib.ListN.{length, drop}
 use Rattle.leb128.specs.Format.{Result, reading}
 use Rattle.leb128.specs.Format.Result.{elements}
+use Rattle.leb128.specs.Reply.{Reply}
+use Rattle.leb128.specs.laws.ReplyCases.{value-not}
 use Rattle.leb128.specs.laws.Cases.{lt-or-le}
 use Rattle.leb128.specs.Grammar.{Accepts}
 use Rattle.leb128.specs.declared.Refusal.{Refusal}
@@ -23,8 +25,8 @@ use Rattle.drawing.specs.laws.Proper.{accepts-proper}
 use Rattle.drawing.specs.Proper.{Proper}
 use Rattle.drawing.specs.laws.ArcCount.{arcs-count}
 use Rattle.arcs.specs.Limits.{max-elements}
-use Rattle.arcs.specs.Loading.{Loading, loading, arcs-size, load-answer, load-slice}
-use Rattle.arcs.specs.laws.Fitting.{counts-of, short-answer, short-slice, long-answer, long-slice}
+use Rattle.arcs.specs.Loading.{loading, arcs-size, counts-of, load-answer, load-slice}
+use Rattle.arcs.specs.laws.Fitting.{short-answer, short-slice, long-answer, long-slice}
 use Rattle.arcs.specs.declared.Counts.{Counts}
 use Rattle.arcs.specs.declared.Loaded.{Loaded}
 use Rattle.arcs.specs.declared.Loaded.the-variants.{Sheet, Refused}
@@ -41,18 +43,13 @@ pub record LoadedSheet (bytes old new : List ℕ) (c : Counts) : Type 0 where
   pub room : arcs-size (sheet-of numbers) ≤ length old
   pub slice : new ≡ packs (network (sheet-of numbers) .arcs) ++ drop (arcs-size (sheet-of numbers)) old
 
--- a refusal is no sheet
-refused-not : {r : Refusal} {nodes edges arcs width : ℕ} → Loading.refused r ≡ Loading.loaded nodes edges arcs width → ⊥
-refused-not e = let z : _≡_ {A = ℕ} 0 1 = cc in omega arith
-
 -- what an answer with a sheet stands for
-sheet-answer : {answer : Loaded} {c : Counts} {l : Loading} → answer ≡ Sheet c → loading answer ≡ l
-    → Loading.loaded (c .nodes) (c .edges) (c .arcs) (c .width) ≡ l
+sheet-answer : {answer : Loaded} {c : Counts} {l : Reply Counts} → answer ≡ Sheet c → loading answer ≡ l → Reply.value c ≡ l
 unfolding loading
 sheet-answer is e = sym (ap loading is) ∙ e
 
 -- what a refusal stands for
-refused-answer : {answer : Loaded} {r : Refusal} {l : Loading} → answer ≡ Refused r → loading answer ≡ l → Loading.refused r ≡ l
+refused-answer : {answer : Loaded} {r : Refusal} {l : Reply Counts} → answer ≡ Refused r → loading answer ≡ l → Reply.refused r ≡ l
 unfolding loading
 refused-answer is e = sym (ap loading is) ∙ e
 
@@ -63,26 +60,27 @@ unfolding load-answer
 loaded-sheet bytes old {new} {answer} {c} is e f = go (read-sheet bytes) refl (sheet-answer is e) f
   where
     go : (result : Result) → read-sheet bytes ≡ result
-        → Loading.loaded (c .nodes) (c .edges) (c .arcs) (c .width) ≡ load-answer (length old) result
+        → Reply.value c ≡ load-answer (length old) result
         → new ≡ load-slice result old → LoadedSheet bytes old new c
     go (elements numbers) i e f =
         ⊎-elim
-        (λ (h : length old < arcs-size (sheet-of numbers)). absurd (refused-not (sym (short-answer numbers (length old) h) ∙ sym e)))
+        (λ (h : length old < arcs-size (sheet-of numbers)). absurd (value-not (e ∙ short-answer numbers (length old) h)))
         (λ (h : arcs-size (sheet-of numbers) ≤ length old).
-        let k : Loading.loaded (c .nodes) (c .edges) (c .arcs) (c .width) ≡ counts-of (sheet-of numbers) = e ∙ long-answer numbers (length old) h in
+        let k : Reply.value c ≡ Reply.value (counts-of (sheet-of numbers)) = e ∙ long-answer numbers (length old) h in
+        let same : c ≡ counts-of (sheet-of numbers) = cc in
         record {
           numbers = numbers;
           reads = i;
           good = read-accepted bytes numbers i;
-          nodes = cc;
-          edges = cc;
-          arcs = cc;
-          width = cc;
+          nodes = ap (λ (k : Counts). k .nodes) same;
+          edges = ap (λ (k : Counts). k .edges) same;
+          arcs = ap (λ (k : Counts). k .arcs) same;
+          width = ap (λ (k : Counts). k .width) same;
           room = h;
           slice = f ∙ long-slice numbers old h;
         })
         (lt-or-le (length old) (arcs-size (sheet-of numbers)))
-    go (Result.refused r) i e f = absurd (refused-not (sym e))
+    go (Result.refused r) i e f = absurd (value-not e)
 
 -- a slice of 5,120 elements is long enough
 pub most-elements : (numbers : List ℕ) → Accepts sheet numbers → arcs-size (sheet-of numbers) ≤ max-elements
@@ -96,12 +94,12 @@ pub reader-refused : (bytes : List ℕ) (room : ℕ) {answer : Loaded} {r : Refu
 unfolding load-answer
 reader-refused bytes room {answer} {r} h is e = go (read-sheet bytes) refl (refused-answer is e)
   where
-    go : (result : Result) → read-sheet bytes ≡ result → Loading.refused r ≡ load-answer room result
+    go : (result : Result) → read-sheet bytes ≡ result → Reply.refused r ≡ load-answer room result
         → result ≡ Result.refused r
     go (elements numbers) i e =
         absurd
-        (refused-not
-        (e ∙ long-answer numbers room (omega (arith, most-elements numbers (read-accepted bytes numbers i)))))
+        (value-not
+        (sym (e ∙ long-answer numbers room (omega (arith, most-elements numbers (read-accepted bytes numbers i))))))
     go (Result.refused s) i e = let are : s ≡ r = cc in ap Result.refused are
 
 -- a refusal leaves the slice as it was
@@ -111,6 +109,6 @@ unfolding load-slice
 refused-kept (elements numbers) old is e =
     ⊎-elim
     (λ (h : length old < arcs-size (sheet-of numbers)). short-slice numbers old h)
-    (λ (h : arcs-size (sheet-of numbers) ≤ length old). absurd (refused-not (refused-answer is e ∙ long-answer numbers (length old) h)))
+    (λ (h : arcs-size (sheet-of numbers) ≤ length old). absurd (value-not (sym (refused-answer is e ∙ long-answer numbers (length old) h))))
     (lt-or-le (length old) (arcs-size (sheet-of numbers)))
 refused-kept (Result.refused s) old is e = refl

@@ -6,6 +6,7 @@ use mathlib.Core.List.{List}
 use lib.IntN.{ℤ}
 use lib.ListN.{length, take}
 use borrow.Author.Tests.{lt-ltb, le-ltb}
+use Rattle.leb128.specs.Reply.{Reply}
 use Rattle.leb128.specs.Refusals.{slice-short}
 use Rattle.leb128.specs.Source.{refusal}
 use Rattle.leb128.specs.Format.{Result, reading}
@@ -19,7 +20,7 @@ use Rattle.drawing.specs.Sheet.{sheet-of}
 use Rattle.drawing.specs.Judged.{judged}
 use Rattle.drawing.specs.laws.Judged.{judged-certifies}
 use Rattle.arcs.specs.declared.Counts.{Counts}
-use Rattle.checker.specs.Verdict.{judgement, said, decided, judge-numbers, check-answer}
+use Rattle.checker.specs.Verdict.{judgement, decided, judge-numbers, check-answer}
 use Rattle.arcs.specs.laws.Loaded.{LoadedSheet}
 use Rattle.arcs.specs.laws.Held.{Holds, loaded-holds, holds-reads, size-is, network-is}
 use Rattle.checker.specs.inside.Table.{table-decision}
@@ -41,21 +42,21 @@ module _ (nodes size : ℕ) (decision : List ℕ → List ℤ → Bool) (places 
 
   module _ (h : nodes ≤ length places) (k : size ≤ length list) where
     -- the decision
-    long-enough : said (decision (take nodes places) (take size list)) ≡ decided nodes size decision places list
+    long-enough : Reply.value (decision (take nodes places) (take size list)) ≡ decided nodes size decision places list
     unfolding decided
     long-enough = rw (le-ltb (length places) nodes h, le-ltb (length list) size k)
 
     -- yes
     pub says-yes : decision (take nodes places) (take size list) ≡ true
         → judgement variants.Yes ≡ decided nodes size decision places list
-    unfolding judgement said
-    says-yes e = sym (ap said e) ∙ long-enough
+    unfolding judgement
+    says-yes e = sym (ap Reply.value e) ∙ long-enough
 
     -- no
     pub says-no : decision (take nodes places) (take size list) ≡ false
         → judgement variants.No ≡ decided nodes size decision places list
-    unfolding judgement said
-    says-no e = sym (ap said e) ∙ long-enough
+    unfolding judgement
+    says-no e = sym (ap Reply.value e) ∙ long-enough
 
 module _ {a : List ℕ} {c : Counts} (h : Holds a c) where
   -- the packed arcs decide as the sheet does

@@ -12,6 +12,8 @@ use Rattle.leb128.specs.Refusals.{slice-short}
 use Rattle.leb128.specs.Source.{refusal}
 use Rattle.leb128.specs.Format.{Result, reading}
 use Rattle.leb128.specs.Format.Result.{elements}
+use Rattle.leb128.specs.Reply.{Reply}
+use Rattle.leb128.specs.laws.ReplyCases.{value-not}
 use Rattle.leb128.specs.declared.Refusal.{Refusal}
 use Rattle.sheet.specs.Reading.{read-sheet}
 use Rattle.sheet.specs.laws.Sheets.{reader-refusals, reader-offsets}
@@ -19,13 +21,7 @@ use Rattle.sheet.specs.Refusals.{SheetRefusal}
 use Rattle.drawing.specs.Sheet.{sheet-of}
 use Rattle.drawing.specs.Certificate.{certificate-size}
 use Rattle.drawing.specs.Judged.{judged}
-use Rattle.checker.specs.Verdict.{Judgement, said, decided, judge-numbers, check-answer}
-
--- a decision is no refusal
-said-not : (b : Bool) (r : Refusal) → said b ≡ Judgement.refused r → ⊥
-unfolding said
-said-not true r e = let z : _≡_ {A = ℕ} 0 1 = cc in omega arith
-said-not false r e = let z : _≡_ {A = ℕ} 0 1 = cc in omega arith
+use Rattle.checker.specs.Verdict.{decided, judge-numbers, check-answer}
 
 -- a slice that is too short
 slice-given : SheetRefusal (refusal slice-short 0)
@@ -33,19 +29,19 @@ slice-given = record { number-in = (omega arith, omega arith); offset-in = omega
 
 -- two tests of length, then a decision
 tests-refused : (few short decision : Bool) (r : Refusal)
-    → cond few (Judgement.refused (refusal slice-short 0)) (cond short (Judgement.refused (refusal slice-short 0)) (said decision)) ≡ Judgement.refused r
+    → cond few (Reply.refused (refusal slice-short 0)) (cond short (Reply.refused (refusal slice-short 0)) (Reply.value decision)) ≡ Reply.refused r
     → SheetRefusal r
 tests-refused true short decision r e = let is-r : r ≡ refusal slice-short 0 = cc in rw is-r slice-given
 tests-refused false true decision r e = let is-r : r ≡ refusal slice-short 0 = cc in rw is-r slice-given
-tests-refused false false decision r e = absurd (said-not decision r e)
+tests-refused false false decision r e = absurd (value-not e)
 
 -- what the checker refuses
-pub check-refusals : (bytes places : List ℕ) (list : List ℤ) (r : Refusal) → check-answer (read-sheet bytes) places list ≡ Judgement.refused r
+pub check-refusals : (bytes places : List ℕ) (list : List ℤ) (r : Refusal) → check-answer (read-sheet bytes) places list ≡ Reply.refused r
     → SheetRefusal r
 unfolding check-answer judge-numbers decided
 check-refusals bytes places list r e = go (read-sheet bytes) refl e
   where
-    go : (read : Result) → read-sheet bytes ≡ read → check-answer read places list ≡ Judgement.refused r → SheetRefusal r
+    go : (read : Result) → read-sheet bytes ≡ read → check-answer read places list ≡ Reply.refused r → SheetRefusal r
     go (elements numbers) i e =
         tests-refused (ltb (length places) (sheet-of numbers .nodes)) (ltb (length list) (certificate-size (sheet-of numbers)))
         (judged (sheet-of numbers) (take (sheet-of numbers .nodes) places) (take (certificate-size (sheet-of numbers)) list)) r e

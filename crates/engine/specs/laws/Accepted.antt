@@ -14,8 +14,8 @@ use Rattle.drawing.specs.Certificate.{certificate-size}
 use Rattle.drawing.specs.Judged.{judged}
 use Rattle.drawing.specs.laws.Judged.{Accepted, accepted-judged}
 use Rattle.network.specs.laws.Tests.{is-true}
-use Rattle.checker.specs.Verdict.{Judgement, judge-numbers, check-answer}
-use Rattle.checker.specs.laws.Decided.{numbers-decided, said-yes-is}
+use Rattle.checker.specs.Verdict.{accepted, judge-numbers, check-answer}
+use Rattle.checker.specs.laws.Decided.{numbers-decided}
 use Rattle.engine.specs.Draws.{Drawn, Returns, Draws}
 
 module _ (s p₀ : List ℕ) (y₀ : List ℤ) (p : List ℕ) (y : List ℤ) (total : ℕ) (g : Returns (sheet-of s) p₀ y₀ p y total) where
@@ -32,11 +32,10 @@ module _ (s p₀ : List ℕ) (y₀ : List ℤ) (p : List ℕ) (y : List ℤ) (to
   numbers-enough = omega (arith, g .list-size, g .room .numbers)
 
   -- yes on the sheet's numbers
-  numbers-yes : judge-numbers s p y ≡ Judgement.accepted
+  numbers-yes : judge-numbers s p y ≡ accepted
   numbers-yes =
       numbers-decided s p y true places-enough numbers-enough
       (is-true (judged (sheet-of s) (take (sheet-of s .nodes) p) (take (certificate-size (sheet-of s)) y)) (accepted-judged s (take (sheet-of s .nodes) p) (take (certificate-size (sheet-of s)) y) facts))
-      ∙ said-yes-is
 
 -- a total is no refusal
 drawn-not : {total : ℕ} {r : Refusal} → Drawn.drawn total ≡ Drawn.refused r → ⊥
@@ -44,7 +43,7 @@ drawn-not e = let z : _≡_ {A = ℕ} 0 1 = cc in omega arith
 
 -- the checker says yes to what is drawn
 pub drawn-accepted : (read : Result) (p₀ : List ℕ) (y₀ : List ℤ) (p : List ℕ) (y : List ℤ) (total : ℕ)
-    → Draws read p₀ y₀ p y (Drawn.drawn total) → check-answer read p y ≡ Judgement.accepted
+    → Draws read p₀ y₀ p y (Drawn.drawn total) → check-answer read p y ≡ accepted
 unfolding Draws check-answer
 drawn-accepted (elements numbers) p₀ y₀ p y total g = numbers-yes numbers p₀ y₀ p y total g
 drawn-accepted (Result.refused r) p₀ y₀ p y total g = absurd (drawn-not (g .0))

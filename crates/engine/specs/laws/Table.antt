@@ -10,6 +10,7 @@ use lib.IntN.{ℤ}
 use lib.ListN.{length, take}
 use lib.Seq.{take-all}
 use Rattle.leb128.specs.Source.{refusal}
+use Rattle.leb128.specs.Reply.{Reply}
 use Rattle.leb128.specs.Format.{Result}
 use Rattle.leb128.specs.Format.Result.{elements}
 use Rattle.sheet.specs.Grammar.{sheet}
@@ -25,8 +26,8 @@ use Rattle.drawing.specs.Table.{table}
 use Rattle.drawing.specs.laws.Proper.{accepts-proper}
 use Rattle.drawing.specs.laws.Unique.{leftmost-unique}
 use Rattle.drawing.specs.laws.Table.{sheets}
-use Rattle.checker.specs.Verdict.{said, check-answer}
-use Rattle.checker.specs.laws.Decided.{numbers-decided, said-yes-is, said-no-is}
+use Rattle.checker.specs.Verdict.{check-answer}
+use Rattle.checker.specs.laws.Decided.{numbers-decided}
 use Rattle.engine.specs.Refusals.{none-exists}
 use Rattle.engine.specs.Draws.{Drawn, Room, NoDrawing, DrawsSheet, Draws}
 use Rattle.engine.specs.laws.Refusals.{refused-none}
@@ -50,7 +51,7 @@ none-answer S p₀ y₀ p y proper room n (Drawn.refused r) g =
 
 -- the checker's word on places and a list of just the needed lengths
 check-word : (bytes numbers p : List ℕ) (y : List ℤ) (b : Bool) → read-sheet bytes ≡ elements numbers → length p ≡ sheet-of numbers .nodes
-    → length y ≡ certificate-size (sheet-of numbers) → judged (sheet-of numbers) p y ≡ b → check-answer (read-sheet bytes) p y ≡ said b
+    → length y ≡ certificate-size (sheet-of numbers) → judged (sheet-of numbers) p y ≡ b → check-answer (read-sheet bytes) p y ≡ Reply.value b
 unfolding check-answer
 check-word bytes numbers p y b read places list e =
     rw read
@@ -80,12 +81,12 @@ row-answered r row = go (r .outcome) (row .says)
     go : (o : Outcome) → Says S o → Answered (r .bytes) o
     go (Outcome.drawn total coordinates list) s = record {
       drawing = every (λ places d. (d ≡ Drawn.drawn total) × (places ≡ coordinates)) (λ p₀ y₀ p y d room g. drawn-answer S p₀ y₀ p y coordinates total proper room (s .leftmost) (s .sum) d g);
-      checked = check-word (r .bytes) (row .numbers) coordinates list true (row .read) (s .leftmost .is-least .candidate .size) (s .list-size) (s .accepted) ∙ said-yes-is;
+      checked = check-word (r .bytes) (row .numbers) coordinates list true (row .read) (s .leftmost .is-least .candidate .size) (s .list-size) (s .accepted);
     }
     go (Outcome.undrawable list) s =
         every (λ places d. d ≡ Drawn.refused (refusal none-exists 0)) (λ p₀ y₀ p y d room g. none-answer S p₀ y₀ p y proper room s d g)
     go (Outcome.rejected coordinates list) s =
-        check-word (r .bytes) (row .numbers) coordinates list false (row .read) (s .size) (s .list-size) (s .rejected) ∙ said-no-is
+        check-word (r .bytes) (row .numbers) coordinates list false (row .read) (s .size) (s .list-size) (s .rejected)
 
 -- every row of a table that holds
 every-answered : (rows : List Row) → Every rows → EveryAnswered rows

@@ -3,6 +3,7 @@
 use Prim.Native.Nat.{ℕ, _≤_, _<_}
 use mathlib.Core.Path.{_≡_, refl}
 use mathlib.Core.Logic.{⊎-elim}
+use mathlib.Core.Bool.{Bool}
 use mathlib.Core.List.{List}
 use native.Mathlib.Omega.{arith}
 use lib.IntN.{ℤ}
@@ -12,13 +13,14 @@ use Rattle.leb128.specs.declared.Refusal.{Refusal}
 use Rattle.leb128.specs.Format.{Result, Outcome, answered, reading, writing}
 use Rattle.leb128.specs.Format.Result.{elements}
 use Rattle.leb128.specs.laws.Cases.{lt-or-le}
+use Rattle.leb128.specs.Reply.{Reply}
 use Rattle.sheet.specs.Limits.{max-bytes}
 use Rattle.sheet.specs.Grammar.{sheet}
 use Rattle.sheet.specs.Reading.{read-sheet, write-sheet}
 use Rattle.sheet.specs.laws.Sheets.{read-accepted, most-numbers, most-bytes, read-written, writer-refusals, writer-given, reader-refusals, reader-offsets, writer-offsets}
 use Rattle.sheet.specs.Refusals.{FormatRefusal}
 use Rattle.drawing.specs.Sheet.{Sheet, sheet-of}
-use Rattle.checker.specs.Verdict.{Judgement, check-answer}
+use Rattle.checker.specs.Verdict.{check-answer}
 use Rattle.checker.specs.laws.Refusals.{check-refusals}
 use Rattle.engine.specs.Draws.{Drawn, Refuses, DrawsSheet, Draws}
 use Rattle.engine.specs.Draws.Refuses.{few-places, few-numbers, none, passes}
@@ -91,7 +93,6 @@ drawing-held bytes p₀ y₀ p y d h = go (read-sheet bytes) refl h
 pub checking-held : (bytes places : List ℕ) (list : List ℤ) → HeldJudgement (check-answer (read-sheet bytes) places list)
 checking-held bytes places list = go (check-answer (read-sheet bytes) places list) refl
   where
-    go : (j : Judgement) → check-answer (read-sheet bytes) places list ≡ j → HeldJudgement j
-    go Judgement.accepted e = omega arith
-    go Judgement.rejected e = omega arith
-    go (Judgement.refused r) e = let g = check-refusals bytes places list r e in given-held r (g .number-in) (g .offset-in)
+    go : (j : Reply Bool) → check-answer (read-sheet bytes) places list ≡ j → HeldJudgement j
+    go (Reply.value b) e = omega arith
+    go (Reply.refused r) e = let g = check-refusals bytes places list r e in given-held r (g .number-in) (g .offset-in)
