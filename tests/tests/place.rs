@@ -1,10 +1,14 @@
 //! The program `place`, run on good, damaged and endless inputs that come in every way, and with
-//! outputs that cannot be written. It prints what the second implementation computes.
+//! inputs that cannot be read and outputs that cannot be written. It prints what the second
+//! implementation computes, whole or, where the output takes no more, a front of it; and one line
+//! on standard error where something failed.
 
 mod process;
 
-use std::fs::{self, File};
-use std::io::{ErrorKind, Write};
+use std::collections::HashMap;
+use std::fs::{self, File, OpenOptions};
+use std::io::{ErrorKind, Read, Seek, Write};
+use std::os::unix::fs::OpenOptionsExt;
 use std::path::{Path, PathBuf};
 use std::process::{Command, Output, Stdio};
 use std::thread;
@@ -25,6 +29,8 @@ const LIMIT: Duration = Duration::from_secs(20);
 const PAUSE: Duration = Duration::from_millis(2);
 /// How many bytes `place` reads at most.
 const READ: usize = 5122;
+/// Linux's flag for a file that refuses what it cannot take at once.
+const O_NONBLOCK: i32 = 0o4000;
 
 /// A file of the repository.
 fn stored(path: &str) -> PathBuf {
@@ -41,26 +47,37 @@ fn place() -> PathBuf {
     path
 }
 
-/// The program with pipes for input and output.
-fn piped() -> Command {
-    let mut command = Command::new(place());
-    command.stdin(Stdio::piped()).stdout(Stdio::piped());
+/// A file for the tests' own use.
+fn scratch(name: &str) -> PathBuf {
+    Path::new(env!("CARGO_TARGET_TMPDIR")).join(name)
+}
+
+/// A command with pipes for input, output and errors.
+fn with_pipes(mut command: Command) -> Command {
+    command.stdin(Stdio::piped());
+    command.stdout(Stdio::piped()).stderr(Stdio::piped());
     command
+}
+
+/// The program with pipes.
+fn piped() -> Command {
+    with_pipes(Command::new(place()))
 }
 
 /// A shell that does these things with its files and then becomes the program.
 fn shell(script: &str) -> Command {
     let mut command = Command::new("sh");
     command.arg("-c").arg(script).arg(place());
-    command.stdin(Stdio::piped()).stdout(Stdio::piped());
-    command
+    with_pipes(command)
 }
 
-/// Runs a command with an input in pieces of this size and a pause behind each.
+/// Runs a command with an input, where it is a pipe, in pieces of this size and a pause behind each.
 fn run_in_pieces(command: &mut Command, input: &[u8], size: usize, pause: Duration) -> Output {
     let pieces: Vec<Vec<u8>> = input.chunks(size).map(<[u8]>::to_vec).collect();
     run(command, LIMIT, move |stdin| {
-        let mut stdin = stdin.expect("the input is a pipe");
+        let Some(mut stdin) = stdin else {
+            return assert!(pieces.is_empty());
+        };
         for piece in pieces {
             match stdin.write_all(&piece) {
                 Err(error) if error.kind() == ErrorKind::BrokenPipe => return,
@@ -71,11 +88,35 @@ fn run_in_pieces(command: &mut Command, input: &[u8], size: usize, pause: Durati
     })
 }
 
-/// Runs a command with an input at once and gives what it prints.
-fn output(command: &mut Command, input: &[u8]) -> String {
+/// Runs a command with an input at once.
+fn run_at_once(command: &mut Command, input: &[u8]) -> Output {
     let found = run_in_pieces(command, input, usize::MAX, Duration::ZERO);
     assert!(found.status.success(), "{:?}", found.status);
+    found
+}
+
+/// Runs a command with an input at once and gives what it prints; nothing fails.
+fn output(command: &mut Command, input: &[u8]) -> String {
+    let found = run_at_once(command, input);
+    assert_eq!(line_of_error(&found), "");
     String::from_utf8(found.stdout).expect("the output is text")
+}
+
+/// Runs a command with an input at once; it prints nothing and says in one line what failed.
+fn failure(command: &mut Command, input: &[u8]) -> String {
+    let found = run_at_once(command, input);
+    assert_eq!(found.stdout, b"");
+    line_of_error(&found)
+}
+
+/// What a program said on standard error: nothing or one line.
+fn line_of_error(found: &Output) -> String {
+    let said = String::from_utf8(found.stderr.clone()).expect("the errors are text");
+    assert!(
+        said.lines().count() <= 1 && (said.is_empty() || said.ends_with('\n')),
+        "{said}"
+    );
+    said
 }
 
 /// Checks what the program prints for an input.
@@ -181,47 +222,115 @@ fn pieces_of_every_size_make_a_sheet() {
 }
 
 #[test]
-fn a_closed_input_is_an_input_without_bytes() {
-    assert_eq!(output(&mut shell(r#"exec "$0" <&-"#), &[]), printed(&[]));
+fn arguments_get_the_usage_and_nothing_is_read() {
+    for arguments in [vec!["--version"], vec!["-h"], vec![""], vec!["a", "b"]] {
+        let mut input = File::open(stored("examples/first.sheet")).expect("an example");
+        let shared = input.try_clone().expect("a file can be shared");
+        let said = failure(piped().args(&arguments).stdin(shared), &[]);
+        assert!(said.starts_with("place 0.1.0: "), "{said}");
+        assert!(said.contains("usage: place"), "{said}");
+        assert_eq!(input.stream_position().expect("a position"), 0);
+    }
 }
 
 #[test]
-fn an_input_that_cannot_be_read_is_an_input_without_bytes() {
+fn a_closed_input_cannot_be_read() {
+    let said = failure(&mut shell(r#"exec "$0" <&-"#), &[]);
+    assert_eq!(said, "place: standard input: Bad file descriptor\n");
+}
+
+#[test]
+fn a_folder_cannot_be_read() {
     let folder = File::open(stored("examples")).expect("a folder can be opened");
-    let found = run(piped().stdin(folder), LIMIT, |_| ());
-    assert_eq!(found.stdout, printed(&[]).as_bytes());
+    let said = failure(piped().stdin(folder), &[]);
+    assert_eq!(said, "place: standard input: Is a directory\n");
 }
 
 #[test]
-fn a_closed_output_ends_the_program() {
+fn a_closed_output_cannot_be_written() {
     for input in [large(1), NO_DRAWING.to_vec(), Vec::new()] {
-        assert_eq!(output(&mut shell(r#"exec "$0" >&-"#), &input), "");
+        let said = failure(&mut shell(r#"exec "$0" >&-"#), &input);
+        assert_eq!(said, "place: standard output: Bad file descriptor\n");
     }
 }
 
 #[test]
 fn all_files_closed_end_the_program() {
-    assert_eq!(output(&mut shell(r#"exec "$0" <&- >&- 2>&-"#), &[]), "");
+    assert_eq!(failure(&mut shell(r#"exec "$0" <&- >&- 2>&-"#), &[]), "");
 }
 
 #[test]
-fn a_full_disk_ends_the_program() {
+fn a_full_disk_cannot_be_written() {
     for input in [large(2), NO_DRAWING.to_vec(), Vec::new()] {
         let full = File::create("/dev/full").expect("/dev/full can be opened");
-        assert_eq!(output(piped().stdout(full), &input), "");
+        let said = failure(piped().stdout(full), &input);
+        assert_eq!(said, "place: standard output: No space left on device\n");
     }
 }
 
 #[test]
 fn a_disk_that_becomes_full_has_the_front_of_the_text() {
-    let path = Path::new(env!("CARGO_TARGET_TMPDIR")).join("cut.txt");
-    let input = large(3);
-    let mut limited = shell(r#"trap "" XFSZ; ulimit -f 1; exec "$0" >"$1""#);
-    assert_eq!(output(limited.arg(&path), &input), "");
-    let found = fs::read(&path).expect("the output was written");
-    let expected = printed(&input);
-    assert_eq!(found.len(), 512);
-    assert!(expected.len() > 512 && expected.as_bytes().starts_with(&found));
+    let (_, wall) = &examples()[3];
+    for (name, input) in [("wall", wall.bytes()), ("none", NO_DRAWING.to_vec())] {
+        let path = scratch(&format!("cut-{name}.txt"));
+        let expected = printed(&input);
+        for limit in 0..expected.len() + 2 {
+            let script = r#"trap "" XFSZ; exec prlimit --fsize="$1" "$0" >"$2""#;
+            let mut limited = shell(script);
+            let said = failure(limited.arg(limit.to_string()).arg(&path), &input);
+            let found = fs::read(&path).expect("the output was written");
+            let room = expected.len().min(limit);
+            assert_eq!(found, &expected.as_bytes()[..room], "{name} {limit}");
+            let whole = room == expected.len();
+            let failed = "place: standard output: File too large\n";
+            assert_eq!(said, if whole { "" } else { failed }, "{name} {limit}");
+        }
+    }
+}
+
+#[test]
+fn a_full_pipe_that_does_not_block_takes_nothing() {
+    for (name, input) in [("large", large(5)), ("none", NO_DRAWING.to_vec())] {
+        let mut pipe = full_pipe(&scratch(&format!("full-{name}.pipe")));
+        let shared = pipe.try_clone().expect("a file can be shared");
+        let said = failure(piped().stdout(shared), &input);
+        assert!(said.starts_with("place: standard output: "), "{said}");
+        let mut bytes = Vec::new();
+        let end = pipe
+            .read_to_end(&mut bytes)
+            .expect_err("the pipe stays open");
+        assert_eq!(end.kind(), ErrorKind::WouldBlock);
+        assert!(!bytes.is_empty() && bytes.iter().all(|&byte| byte == FILLING));
+    }
+}
+
+#[test]
+fn two_thousand_runs_append_whole_texts_to_one_file() {
+    const THREADS: usize = 8;
+    const RUNS: usize = 250;
+    let path = scratch("together.txt");
+    fs::write(&path, "").expect("the output can be made");
+    let inputs = [many(), NO_DRAWING.to_vec()];
+    let append = || OpenOptions::new().append(true).open(&path);
+    thread::scope(|scope| {
+        for thread in 0..THREADS {
+            let input = &inputs[thread % inputs.len()];
+            scope.spawn(move || {
+                for _ in 0..RUNS {
+                    let file = append().expect("the output can be opened");
+                    assert_eq!(failure(piped().stdout(file), input), "");
+                }
+            });
+        }
+    });
+    let found = fs::read_to_string(&path).expect("the output is text");
+    let mut counts = HashMap::new();
+    for text in texts(&found) {
+        *counts.entry(text).or_insert(0) += 1;
+    }
+    let each = THREADS * RUNS / inputs.len();
+    let expected = inputs.map(|input| (printed(&input), each));
+    assert_eq!(counts, HashMap::from(expected));
 }
 
 #[test]
@@ -235,6 +344,47 @@ fn an_output_that_nobody_reads_ends_the_program() {
 #[should_panic(expected = "takes longer")]
 fn a_program_that_hangs_fails_its_test() {
     run(Command::new("sleep").arg("60"), 10 * PAUSE, |_| ());
+}
+
+/// The byte that fills a pipe.
+const FILLING: u8 = b'#';
+
+/// A pipe that is open for reading and writing, does not block and is full.
+fn full_pipe(path: &Path) -> File {
+    let _ = fs::remove_file(path);
+    let made = Command::new("mkfifo").arg(path).status();
+    assert!(made.expect("mkfifo can be run").success());
+    let mut options = OpenOptions::new();
+    options.read(true).write(true).custom_flags(O_NONBLOCK);
+    let mut pipe = options.open(path).expect("a pipe can be opened");
+    while pipe.write(&[FILLING]).is_ok() {}
+    pipe
+}
+
+/// A sheet of as many nodes as may be, drawn at once.
+fn many() -> Vec<u8> {
+    let mut random = Random::new(6);
+    planted(
+        &mut random,
+        &Plan {
+            edges: 0,
+            ..Plan::FULL_LOOSE
+        },
+    )
+    .bytes()
+}
+
+/// The texts that stand one behind the other, each from its first line to the next one's.
+fn texts(all: &str) -> Vec<String> {
+    let mut texts: Vec<String> = Vec::new();
+    for line in all.split_inclusive('\n') {
+        let first = line.starts_with("total ") || line.starts_with("refused ");
+        match texts.last_mut() {
+            Some(text) if !first => text.push_str(line),
+            _ => texts.push(line.to_string()),
+        }
+    }
+    texts
 }
 
 /// The writing end of a pipe whose reading end is closed.

@@ -21,3 +21,4 @@ pub mod HeldOnly
 pub mod Unique
 pub mod Rows
 pub mod Table
+pub mod Located

@@ -1,39 +1,54 @@
 // The program `place`: draws the sheet on its standard input, and prints the drawing or the refusal.
-mod lines;
-mod show;
+mod answer;
 
-use arcs::limits::MAX_ARCS;
-use engine::Answer;
+use crate::answer::answer;
+use libc::STDERR_FILENO;
 use libc::STDIN_FILENO;
+use libc::STDOUT_FILENO;
+use report::limits::MAX_TEXT;
 use sheet::limits::MAX_BYTES;
-use sheet::limits::MAX_NODES;
-use sheet::limits::MAX_NUMBERS;
 
 // What is read of the input. A sheet has fewer bytes, so the byte behind it is among these, and no answer depends on any
 // later one.
 const INPUT_BYTES: usize = MAX_BYTES + 1;
 
-// Prints the drawing of a sheet.
-fn print_drawing(bytes: &[u8], places: &[u16], total: u32) {
-    let mut numbers = [0u16; MAX_NUMBERS];
-    sheet::read(bytes, &mut numbers);
-    show::total(total);
-    lines::print(&numbers, places);
-}
-
-// Draws a sheet, and prints the drawing or the refusal.
-fn draw(bytes: &[u8]) {
-    let mut places = [0u16; MAX_NODES as usize];
-    let mut list = [0i32; MAX_ARCS];
-    match engine::draw(bytes, &mut places, &mut list) {
-        Answer::Drawn(total) => print_drawing(bytes, &places, total),
-        Answer::Refused(r) => show::refusal(r),
+// Draws a sheet, and prints the text of the answer by one write.
+fn print(bytes: &[u8]) {
+    let mut text = [0u8; MAX_TEXT];
+    let count = answer(bytes, &mut text);
+    if !io::write_all(STDOUT_FILENO, &text[0..count]) {
+        os::fail(b"place: standard output");
     }
 }
 
-// Reads the input to its end, in whatever pieces it comes, and draws it.
+// Reads the input to its end or until the slice is full, in whatever pieces it comes, and prints the answer.
+fn run(input: &mut [u8]) {
+    let mut done: usize = 0;
+    while done < input.len() {
+        let got = libc::read(STDIN_FILENO, &mut input[done..]);
+        if got < 0 {
+            os::fail(b"place: standard input");
+            return;
+        }
+        let count = io::count(got, &input[done..]);
+        if count == 0 {
+            print(&input[0..done]);
+            return;
+        }
+        done += count;
+    }
+    print(input);
+}
+
+// Answers the sheet on standard input; with any argument, says how the program is used.
 fn main() {
+    if os::arg_count() > 1 {
+        io::write_all(
+            STDERR_FILENO,
+            b"place 0.1.0: draws the sheet on standard input; usage: place < SHEET\n",
+        );
+        return;
+    }
     let mut input = [0u8; INPUT_BYTES];
-    let n = io::read_full(STDIN_FILENO, &mut input);
-    draw(&input[..n]);
+    run(&mut input);
 }

@@ -10,3 +10,4 @@ pub mod Written
 pub mod Filling
 pub mod Putting
 pub mod Examples
+pub mod Locating

@@ -3,7 +3,7 @@ use Prim.Native.Nat.{ℕ, zero, suc, _+_, _*_, _-_, _≤_}
 use mathlib.Core.Path.{_≡_}
 use mathlib.Core.List.{List}
 use lib.ListN.{length, getD, drop}
-use Rattle.sheet.specs.Limits.{max-width, max-layers, max-nodes, max-edges}
+use Rattle.sheet.specs.Limits.{max-width, max-layers, max-layer-nodes, max-nodes, max-edges}
 
 -- the width (strip width W)
 abbrev pub width-at : ℕ
@@ -95,10 +95,16 @@ edge-part numbers = behind-layers (getD numbers layers-at 0) (drop first-layer-a
 abbrev pub edge-count : List ℕ → ℕ
 edge-count numbers = getD (edge-part numbers) edge-count-at 0
 
+-- each of n layers has a node, and not more than a layer may have
+abbrev pub Limited : ℕ → List ℕ → Type 0
+Limited zero s = Unit
+Limited (suc n) s = (1 ≤ getD s nodes-at 0) × (getD s nodes-at 0 ≤ max-layer-nodes) × Limited n (next-layer s)
+
 -- what the layout says of a good sheet's numbers
 pub record LaidOut (numbers : List ℕ) : Type 0 where
   pub width : getD numbers width-at 0 ≤ max-width
   pub layer-count : (1 ≤ getD numbers layers-at 0) × (getD numbers layers-at 0 ≤ max-layers)
+  pub layers : Limited (getD numbers layers-at 0) (drop first-layer-at numbers)
   pub nodes : node-count numbers ≤ max-nodes
   pub edges : edge-count numbers ≤ max-edges
   pub size : length (edge-part numbers) ≡ edges-at + edge-stride * edge-count numbers

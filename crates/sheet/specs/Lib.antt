@@ -1,5 +1,6 @@
 pub mod Limits
 pub mod Layout
+pub mod Nodes
 pub mod Refusals
 pub mod Grammar
 pub mod Reading

@@ -1,3 +1,5 @@
 pub mod SheetNumbers
 pub mod LaidOut
 pub mod Sheets
+pub mod Nodes
+pub mod ReadInto

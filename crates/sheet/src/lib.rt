@@ -1,6 +1,7 @@
 // Reader and writer of sheets: one pass walks the grammar and writes nothing, a second one fills the lent slice.
 pub mod layout;
 pub mod limits;
+mod nodes;
 mod reader;
 pub mod refusals;
 mod source;
@@ -12,6 +13,7 @@ use leb128::Answer;
 use leb128::Refusal;
 use leb128::refusals::SLICE_SHORT;
 use leb128::refusals::SOMETHING_FOLLOWS;
+pub use nodes::locate;
 ghost use mathlib.Core.Path.{_≡_};
 ghost use lib.ListN.{length};
 ghost use Rattle.leb128.specs.Source.{refusal};
@@ -44,6 +46,12 @@ pub fn write(numbers: &[u16], bytes: &mut [u8]) -> Answer
     };
     writer::put_sheet(numbers, bytes);
     answer
+}
+
+// Where a node stands: its layer and its position there, from 1; or there is no such node.
+pub enum Location {
+    Node(usize, usize),
+    Nowhere,
 }
 
 // Where the next number stands: in the bytes (encoded) or in the number list, at a position; the numbers before it take

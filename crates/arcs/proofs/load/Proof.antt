@@ -2,7 +2,8 @@
 use native.Mathlib.Omega.{arith}
 use lib.ListN.{length}
 use borrow.Author.Needs.{needs}
-use Rattle.arcs.proofs.laws.Load.{done-room, done-good, done-answer, done-slice, refused-answer, refused-slice}
+use Rattle.sheet.specs.laws.ReadInto.{read-room}
+use Rattle.arcs.proofs.laws.Load.{done-good, done-answer, done-slice, refused-answer, refused-slice}
 use Rattle.arcs.proofs.load.Statement.{statement}
 use Rattle.arcs.proofs.load.Tie as tie
 
@@ -29,7 +30,7 @@ part-load-numbers-end c =
     let start = c .before .before .before .before .before .before .before .before .before in
     let read = c .before .before .before .before .before .read in
     let h =
-    done-room (start .args .bytes .now) _ _ (read .ensures .0) (read .ensures .1)
+    read-room (start .args .bytes .now) _ _ (read .ensures .0) (read .ensures .1)
     (c .before .before .answer2 .given .1) in
     omega arith
 

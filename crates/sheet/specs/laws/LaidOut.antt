@@ -11,7 +11,7 @@ use Rattle.leb128.specs.Grammar.Grammar.{number}
 use Rattle.leb128.specs.laws.EachNumber.{within-limits}
 use Rattle.leb128.specs.Grammar.Accepts.{nil, one}
 use Rattle.sheet.specs.Limits.{max-width, max-layers, max-layer-nodes, max-nodes, max-edges}
-use Rattle.sheet.specs.Layout.{width-at, layers-at, nodes-at, separation-stride, layer-size, behind-layers, nodes-of, edges-at, edge-stride, edge-count, LaidOut}
+use Rattle.sheet.specs.Layout.{width-at, layers-at, nodes-at, separation-stride, layer-size, behind-layers, nodes-of, edges-at, edge-stride, edge-count, Limited, LaidOut}
 use Rattle.sheet.specs.Grammar.{separation, separations, layers, edge, edges, sheet}
 
 -- the first number meets its rule, and what follows it is accepted
@@ -56,6 +56,7 @@ behind-layer s h a =
 
 -- n layers are followed by what the grammar says, and have at most room nodes
 record Laid (n room : ℕ) (next : List ℕ → Grammar) (s : List ℕ) : Type 0 where
+  pub limited : Limited n s
   pub counts : List ℕ
   pub rest : Accepts (next counts) (behind-layers n s)
   pub few : nodes-of n s ≤ room
@@ -64,13 +65,18 @@ record Laid (n room : ℕ) (next : List ℕ → Grammar) (s : List ℕ) : Type 0
 laid : (n room : ℕ) (counts : List ℕ) {next : List ℕ → Grammar} {s : List ℕ} → Accepts (layers n room counts next) s
     → Laid n room next s
 unfolding layers
-laid zero room counts a = record { counts = counts; rest = a; few = omega arith }
+laid zero room counts a = record { limited = tt; counts = counts; rest = a; few = omega arith }
 laid (suc n) room counts {s = s} a =
     let o = opened a in
     let nodes : ℕ = getD s 0 0 in
     let limits = within-limits 1 (min max-layer-nodes room) nodes (o .meets) in
     let others = laid n (room - nodes) (counts ++ nodes ∷ []) (behind-layer s (omega (arith, o .there)) (o .rest) .rest) in
-    record { counts = others .counts; rest = others .rest; few = omega (arith, limits, others .few) }
+    record {
+      limited = (limits .0, omega (arith, limits .1), others .limited);
+      counts = others .counts;
+      rest = others .rest;
+      few = omega (arith, limits, others .few);
+    }
 
 -- n edges end the list
 edges-end : (n : ℕ) (counts : List ℕ) {s : List ℕ} → Accepts (edges n counts) s → length s ≡ edge-stride * n
@@ -96,6 +102,7 @@ laid-out numbers a =
     record {
       width = within-limits 0 max-width (getD numbers width-at 0) (width .meets) .1;
       layer-count = rw (← is-n) (within-limits 1 max-layers n (count .meets));
+      layers = l .limited;
       nodes = l .few;
       edges = within-limits 0 max-edges (edge-count numbers) (total .meets) .1;
       size = total .there ∙ ap (λ (k : ℕ). edges-at + k) (edges-end (edge-count numbers) (l .counts) (total .rest));

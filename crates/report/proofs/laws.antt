@@ -1,0 +1,5 @@
+pub mod Putting
+pub mod Fields
+pub mod Nodes
+pub mod Delivering
+pub mod Texts

@@ -1,0 +1,28 @@
+-- `report::lines::put_total` meets its contract: the word and the number.
+use Rattle.report.specs.Text.{total-word, newline, field, total-line}
+use Rattle.report.proofs.laws.Putting.{puts-then, room-first, room-next}
+use borrow.Author.Needs.{needs}
+use Rattle.report.proofs.lines.put_total.Statement.{statement}
+use Rattle.report.proofs.lines.put_total.Tie as tie
+
+slice-aggregate-put : tie.Need-slice-aggregate-put
+slice-aggregate-put c = search needs
+
+put-requires : tie.Need-put-requires
+unfolding total-line
+put-requires c κs = room-first total-word (field (c .before .before .before .args .total) newline) (c .before .before .before .pre)
+
+put-field-requires : tie.Need-put-field-requires
+unfolding total-line
+put-field-requires c κs = room-next (field (c .before .before .before .before .before .before .before .args .total) newline) (c .before .before .before .put .ensures) (c .before .before .before .before .before .before .before .pre)
+
+same-length : tie.Need-same-length
+same-length c = search needs
+
+returns : tie.Need-returns
+unfolding total-line
+returns c = puts-then (c .before .before .before .before .before .before .put .ensures) (c .before .before .put-field .ensures)
+
+pub put-total-spec : {M : Type 1} → statement M
+put-total-spec =
+    tie.close (tie.spec slice-aggregate-put put-requires put-field-requires same-length returns)

@@ -1,0 +1,57 @@
+-- `report::writer::put` meets its contract: the loop's invariant is `Left`.
+use Rattle.report.proofs.laws.Putting.{Left, left-begin, copy-room, copy-next, copy-end}
+use lib.ListN.{length, drop}
+use native.Mathlib.Omega.{arith}
+use Prim.Native.Nat.{_≤_, _-_}
+use borrow.Author.Needs.{needs}
+use Rattle.report.proofs.writer.put.Statement.{statement}
+use Rattle.report.proofs.writer.put.Tie as tie
+
+abbrev Inv-loop : tie.InvT-loop
+Inv-loop text₀ at part next₀ i₀ text next i = (i ≤ length part) × Left text₀ at part text next (drop i part)
+
+abbrev μ-loop : tie.MeasureT-loop
+μ-loop text₀ at part next₀ i₀ text next i = length part - i
+
+loop-holds : tie.Need-loop-holds Inv-loop μ-loop
+loop-holds c = (omega arith, left-begin _ _ _)
+
+shared-slice-read-text : tie.Need-shared-slice-read-text Inv-loop μ-loop
+shared-slice-read-text c = search needs
+
+slice-write-text : tie.Need-slice-write-text Inv-loop μ-loop
+slice-write-text c = copy-room (c .before .before .loop .i) (c .before .before .loop .inv .1) (c .before .before .before .pre) (c .before .loop-test .taken)
+
+add-next : tie.Need-add-next Inv-loop μ-loop
+add-next c = let room = copy-room (c .before .before .loop .i) (c .before .before .loop .inv .1) (c .before .before .before .pre) (c .before .loop-test .taken) in omega arith
+
+add-i : tie.Need-add-i Inv-loop μ-loop
+add-i c = search needs
+
+loop-less : tie.Need-loop-less Inv-loop μ-loop
+loop-less c = search needs
+
+loop-again : tie.Need-loop-again Inv-loop μ-loop
+loop-again c = (omega arith, copy-next (c .before .before .loop .i) (c .before .before .loop .inv .1) (c .before .loop-test .taken))
+
+same-length : tie.Need-same-length Inv-loop μ-loop
+same-length c = c .before .loop .inv .1 .size
+
+returns : tie.Need-returns Inv-loop μ-loop
+returns c = copy-end (c .before .loop .i) (c .before .loop .inv .1) (omega arith)
+
+pub put-spec : {M : Type 1} → statement M
+put-spec =
+    tie.close
+    (tie.spec
+    Inv-loop
+    μ-loop
+    loop-holds
+    shared-slice-read-text
+    slice-write-text
+    add-next
+    add-i
+    loop-less
+    loop-again
+    same-length
+    returns)

@@ -1,0 +1,5 @@
+pub mod Limits
+pub mod Decimal
+pub mod Text
+pub mod inside
+pub mod laws

@@ -1,0 +1,4 @@
+pub mod Fewest
+pub mod ByNode
+pub mod Examples
+pub mod Lengths
