@@ -227,7 +227,8 @@ fn arguments_get_the_usage_and_nothing_is_read() {
         let mut input = File::open(stored("examples/first.sheet")).expect("an example");
         let shared = input.try_clone().expect("a file can be shared");
         let said = failure(piped().args(&arguments).stdin(shared), &[]);
-        assert!(said.starts_with("place 0.1.0: "), "{said}");
+        let start = format!("place {}: ", strip::VERSION);
+        assert!(said.starts_with(&start), "{said}");
         assert!(said.contains("usage: place"), "{said}");
         assert_eq!(input.stream_position().expect("a position"), 0);
     }
