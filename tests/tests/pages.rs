@@ -9,12 +9,17 @@ use std::process::Command;
 
 use tools::{folder, root, run_in, shared_library, NO_KIT};
 
-/// The pages, from the root of the repository.
+/// The pages, from the root of the repository; of the template of a note no path is one of a file.
 fn pages() -> Vec<PathBuf> {
-    let docs = fs::read_dir(root().join("docs")).expect("the pages");
-    let docs = docs.map(|entry| Path::new("docs").join(entry.expect("a page").file_name()));
     let mut pages = vec!["README.md".into(), "CHANGELOG.md".into()];
-    pages.extend(docs);
+    for folder in ["docs", "docs/landings"] {
+        for entry in fs::read_dir(root().join(folder)).expect("the pages") {
+            let name = entry.expect("a page").file_name();
+            if name != "landings" && name != "TEMPLATE.md" {
+                pages.push(Path::new(folder).join(name));
+            }
+        }
+    }
     pages
 }
 
