@@ -27,19 +27,42 @@ part-sheet-text-start : tie.Need-part-sheet-text-start
 part-sheet-text-start c = search needs
 
 part-sheet-text-end : tie.Need-part-sheet-text-end
-part-sheet-text-end c = let h = read-room (c .before .before .before .before .before .before .before .before .before .before .args .bytes .now) _ _ (c .before .before .before .before .before .read .ensures .0) (c .before .before .before .before .before .read .ensures .1) (c .before .before .answer2 .given .1) in omega arith
+part-sheet-text-end c =
+    let start = c .before .before .before .before .before .before .before .before .before .before in
+    let read = c .before .before .before .before .before .read in
+    let answer2 = c .before .before .answer2 in
+    let h = read-room (start .args .bytes .now) _ _ (read .ensures .0) (read .ensures .1) (answer2 .given .1) in
+    omega arith
 
 sheet-text-requires : tie.Need-sheet-text-requires
-sheet-text-requires c κs = good-layout _ (read-good (c .before .before .before .before .before .before .before .before .before .before .before .before .args .bytes .now) _ _ (c .before .before .before .before .before .before .before .read .ensures .0) (c .before .before .before .before .before .before .before .read .ensures .1) (c .before .before .before .before .answer2 .given .1))
+sheet-text-requires c κs =
+    let start = c .before .before .before .before .before .before .before .before .before .before .before .before in
+    let read = c .before .before .before .before .before .before .before .read in
+    let answer2 = c .before .before .before .before .answer2 in
+    good-layout _ (read-good (start .args .bytes .now) _ _ (read .ensures .0) (read .ensures .1) (answer2 .given .1))
 
 returns : tie.Need-returns
-returns c = let e = text-refused (c .before .before .before .before .before .before .before .before .before .args .places .now) (c .before .before .before .before .before .before .before .before .before .args .total) (read-refused (c .before .before .before .before .before .before .before .before .before .args .bytes .now) _ _ (c .before .before .before .before .read .ensures .0) (c .before .before .before .before .read .ensures .1) (omega arith) (c .before .answer .given .1)) in (refused-answer e _ refl, refused-slice e _)
+returns c =
+    let start = c .before .before .before .before .before .before .before .before .before in
+    let read = c .before .before .before .before .read in
+    let e =
+    text-refused (start .args .places .now) (start .args .total)
+    (read-refused (start .args .bytes .now) _ _ (read .ensures .0) (read .ensures .1) (omega arith) (c .before .answer .given .1)) in
+    (refused-answer e _ refl, refused-slice e _)
 
 same-length : tie.Need-same-length
 same-length c = search needs
 
 returns-2 : tie.Need-returns-2
-returns-2 c = let e = read-is (c .before .before .before .before .before .before .before .before .before .before .before .before .before .before .before .args .bytes .now) _ _ (c .before .before .before .before .before .before .before .before .before .before .read .ensures .0) (c .before .before .before .before .before .before .before .before .before .before .read .ensures .1) (c .before .before .before .before .before .before .before .answer2 .given .1) in (read-answer e (c .before .before .before .before .before .before .before .before .before .before .before .before .before .before .before .args .places .now) (c .before .before .before .before .before .before .before .before .before .before .before .before .before .before .before .args .total) _ (c .before .before .sheet-text .ensures .0), read-slice e (c .before .before .before .before .before .before .before .before .before .before .before .before .before .before .before .args .places .now) (c .before .before .before .before .before .before .before .before .before .before .before .before .before .before .before .args .total) _ (c .before .before .sheet-text .ensures .1))
+returns-2 c =
+    let start = c .before .before .before .before .before .before .before .before .before .before .before .before .before .before .before in
+    let sheet-text = c .before .before .sheet-text in
+    let read = c .before .before .before .before .before .before .before .before .before .before .read in
+    let answer2 = c .before .before .before .before .before .before .before .answer2 in
+    let e = read-is (start .args .bytes .now) _ _ (read .ensures .0) (read .ensures .1) (answer2 .given .1) in (
+      read-answer e (start .args .places .now) (start .args .total) _ (sheet-text .ensures .0),
+      read-slice e (start .args .places .now) (start .args .total) _ (sheet-text .ensures .1),
+    )
 
 pub drawing-text-spec : {M : Type 1} → statement M
 drawing-text-spec =

@@ -22,10 +22,19 @@ refused-8 : refusal-line (refusal 8 0) ≡ 114 ∷ 101 ∷ 102 ∷ 117 ∷ 115 �
 unfolding digit-count decimal field refusal-line
 refused-8 = refl
 
--- a number of every length that a place may have
-places : decimal 0 ≡ 48 ∷ []
+-- 0 has one digit
+zero-digit : decimal 0 ≡ 48 ∷ []
 unfolding digit-count decimal
-places = refl
+zero-digit = refl
+
+-- 10 and 4095
+ten : decimal 10 ≡ 49 ∷ 48 ∷ []
+unfolding digit-count decimal
+ten = refl
+
+widest : decimal 4095 ≡ 52 ∷ 48 ∷ 57 ∷ 53 ∷ []
+unfolding digit-count decimal
+widest = refl
 
 -- the greatest number of 64 bits: 18446744073709551615
 greatest : decimal 18446744073709551615 ≡ 49 ∷ 56 ∷ 52 ∷ 52 ∷ 54 ∷ 55 ∷ 52 ∷ 52 ∷ 48 ∷ 55 ∷ 51 ∷ 55 ∷ 48 ∷ 57 ∷ 53 ∷ 53 ∷ 49 ∷ 54 ∷ 49 ∷ 53 ∷ []

@@ -7,7 +7,13 @@ draw-requires : tie.Need-draw-requires
 draw-requires c κs = search needs
 
 tell-requires : tie.Need-tell-requires
-tell-requires c κs = (record { places₀ = c .before .before .before .before .before .before .before .before .before .before .before .args .places .now; list₀ = c .before .before .before .before .before .before .before .before .before .before .before .args .list .now; answers = record { list = _; draws = c .before .before .before .before .before .draw .ensures } }, c .before .before .before .before .before .before .before .before .before .before .before .pre)
+tell-requires c κs =
+    let start = c .before .before .before .before .before .before .before .before .before .before .before in
+    let draw = c .before .before .before .before .before .draw in (
+      record
+          { places₀ = start .args .places .now; list₀ = start .args .list .now; answers = record { list = _; draws = draw .ensures } },
+      start .pre,
+    )
 
 same-length : tie.Need-same-length
 same-length c = search needs
@@ -19,7 +25,10 @@ same-length-3 : tie.Need-same-length-3
 same-length-3 c = search needs
 
 returns : tie.Need-returns
-returns c = record { places = _; answer = _; answers = record { list = _; draws = c .before .before .before .before .before .before .before .before .draw .ensures }; shows = c .before .before .tell .ensures }
+returns c =
+    let draw = c .before .before .before .before .before .before .before .before .draw in
+    let tell = c .before .before .tell in
+    record { places = _; answer = _; answers = record { list = _; draws = draw .ensures }; shows = tell .ensures }
 
 pub answer-within-spec : {M : Type 1} → statement M
 answer-within-spec =

@@ -27,13 +27,27 @@ same-length : tie.Need-same-length
 same-length c = search needs
 
 returns : tie.Need-returns
-returns c = told-drawing (c .before .before .before .before .before .before .before .before .before .before .before .args .bytes .now) (c .before .before .before .before .before .before .before .before .before .before .before .args .places .now) (c .before .before .before .before .before .before .before .before .before .before .before .args .text .now) _ (c .before .before .before .before .before .before .before .before .before .before .before .args .drawn) (c .before .before .before .drawing-text .result) (c .before .before .before .before .before .before .before .before .before .before .before .pre .1) (c .before .before .before .before .before .before .before .before .before .before .before .pre .0) (c .written .ensures) (c .before .before .before .before .before .before .drawn .given .1) (λ v. omega (arith, c .before .before .before .before .before .before .before .before .before .shared-slice-known2 .given v)) (omega arith) (c .before .before .before .drawing-text .ensures .0) (c .before .before .before .drawing-text .ensures .1)
+returns c =
+    let start = c .before .before .before .before .before .before .before .before .before .before .before in
+    let drawing-text = c .before .before .before .drawing-text in
+    let drawn = c .before .before .before .before .before .before .drawn in
+    let shared-slice-known2 = c .before .before .before .before .before .before .before .before .before .shared-slice-known2 in
+    told-drawing (start .args .bytes .now) (start .args .places .now) (start .args .text .now) _ (start .args .drawn)
+    (drawing-text .result) (start .pre .1) (start .pre .0) (c .written .ensures) (drawn .given .1)
+    (λ v. omega (arith, shared-slice-known2 .given v)) (omega arith) (drawing-text .ensures .0)
+    (drawing-text .ensures .1)
 
 same-length-2 : tie.Need-same-length-2
 same-length-2 c = search needs
 
 returns-2 : tie.Need-returns-2
-returns-2 c = told-refusal (c .before .before .before .before .before .before .before .before .before .before .before .args .bytes .now) (c .before .before .before .before .before .before .before .before .before .before .before .args .places .now) (c .before .before .before .before .before .before .before .before .before .before .before .args .text .now) _ (c .before .before .before .before .before .before .before .before .before .before .before .args .drawn) (c .before .before .before .refusal-text .result) (c .before .before .before .before .before .before .before .before .before .before .before .pre .1) (c .before .before .before .before .before .before .before .before .before .before .before .pre .0) (c .written2 .ensures) (c .before .before .before .before .before .before .drawn2 .given .1) (omega arith) (omega arith) (c .before .before .before .refusal-text .ensures .0) (c .before .before .before .refusal-text .ensures .1)
+returns-2 c =
+    let start = c .before .before .before .before .before .before .before .before .before .before .before in
+    let refusal-text = c .before .before .before .refusal-text in
+    let drawn2 = c .before .before .before .before .before .before .drawn2 in
+    told-refusal (start .args .bytes .now) (start .args .places .now) (start .args .text .now) _ (start .args .drawn)
+    (refusal-text .result) (start .pre .1) (start .pre .0) (c .written2 .ensures) (drawn2 .given .1) (omega arith)
+    (omega arith) (refusal-text .ensures .0) (refusal-text .ensures .1)
 
 pub tell-spec : {M : Type 1} → statement M
 tell-spec =

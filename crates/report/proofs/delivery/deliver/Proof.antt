@@ -9,7 +9,11 @@ short-requires : tie.Need-short-requires
 short-requires c κs = search needs
 
 returns : tie.Need-returns
-returns c = (short-answer (c .before .before .before .before .args .whole .now) (c .before .before .before .before .args .text .now) (c .before .if1 .taken) (c .short .ensures), short-slice (c .before .before .before .before .args .whole .now) (c .before .before .before .before .args .text .now) (c .before .if1 .taken))
+returns c =
+    let start = c .before .before .before .before in (
+      short-answer (start .args .whole .now) (start .args .text .now) (c .before .if1 .taken) (c .short .ensures),
+      short-slice (start .args .whole .now) (start .args .text .now) (c .before .if1 .taken),
+    )
 
 put-requires : tie.Need-put-requires
 put-requires c κs = search needs
@@ -18,7 +22,12 @@ same-length : tie.Need-same-length
 same-length c = search needs
 
 returns-2 : tie.Need-returns-2
-returns-2 c = (whole-answer (c .before .before .before .before .before .before .before .args .whole .now) (c .before .before .before .before .before .before .before .args .text .now) (omega arith) (c .before .before .put .ensures), whole-slice (c .before .before .before .before .before .before .before .args .whole .now) (c .before .before .before .before .before .before .before .args .text .now) (omega arith) (c .before .before .put .ensures))
+returns-2 c =
+    let start = c .before .before .before .before .before .before .before in
+    let put = c .before .before .put in (
+      whole-answer (start .args .whole .now) (start .args .text .now) (omega arith) (put .ensures),
+      whole-slice (start .args .whole .now) (start .args .text .now) (omega arith) (put .ensures),
+    )
 
 pub deliver-spec : {M : Type 1} → statement M
 deliver-spec = tie.close (tie.spec short-requires returns put-requires same-length returns-2)

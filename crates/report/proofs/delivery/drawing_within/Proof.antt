@@ -23,10 +23,31 @@ short-requires : tie.Need-short-requires
 short-requires c κs = search needs
 
 returns : tie.Need-returns
-returns c = let e = text-short (c .before .before .before .before .before .before .before .before .args .numbers .now) (c .before .before .before .before .before .before .before .before .args .places .now) (c .before .before .before .before .before .before .before .before .args .total) (found-node (c .before .before .before .before .before .before .before .before .args .numbers .now) (length (c .before .before .before .before .before .before .before .before .args .places .now)) _ _ (at-node (c .before .before .before .before .before .before .before .before .args .numbers .now) (length (c .before .before .before .before .before .before .before .before .args .places .now)) (c .before .before .before .locate .ensures) (c .before .enum-told2 .given .1))) in (refused-answer e _ (c .short .ensures), refused-slice e _)
+returns c =
+    let start = c .before .before .before .before .before .before .before .before in
+    let places = start .args .places .now in
+    let numbers = start .args .numbers .now in
+    let locate = c .before .before .before .locate in
+    let e =
+    text-short numbers places (start .args .total)
+    (found-node numbers (length places) _ _
+    (at-node numbers (length places) (locate .ensures) (c .before .enum-told2 .given .1))) in
+    (refused-answer e _ (c .short .ensures), refused-slice e _)
 
 put-drawing-requires : tie.Need-put-drawing-requires
-put-drawing-requires c κs = (c .before .before .before .before .before .before .before .before .pre .0, ((all-before (c .before .before .before .before .before .before .before .before .args .numbers .now) (length (c .before .before .before .before .before .before .before .before .args .places .now)) (c .before .before .before .locate .ensures) (c .before .enum-told .given .1)), (drawing-room (c .before .before .before .before .before .before .before .before .args .room .now) (c .before .before .before .before .before .before .before .before .args .numbers .now) (c .before .before .before .before .before .before .before .before .args .places .now) (c .before .before .before .before .before .before .before .before .args .total) (c .before .before .before .before .before .before .before .before .pre .1) (c .before .before .before .before .before .before .before .before .pre .0) (λ v. omega (arith, c .before .before .before .before .before .before .shared-slice-known2 .given v)) (omega arith))))
+put-drawing-requires c κs =
+    let start = c .before .before .before .before .before .before .before .before in
+    let places = start .args .places .now in
+    let numbers = start .args .numbers .now in
+    let locate = c .before .before .before .locate in
+    let shared-slice-known2 = c .before .before .before .before .before .before .shared-slice-known2 in (
+      start .pre .0,
+      (
+        (all-before numbers (length places) (locate .ensures) (c .before .enum-told .given .1)),
+        (drawing-room (start .args .room .now) numbers places (start .args .total) (start .pre .1) (start .pre .0)
+            (λ v. omega (arith, shared-slice-known2 .given v)) (omega arith)),
+      ),
+    )
 
 sub-deliver : tie.Need-sub-deliver
 sub-deliver c = search needs
@@ -35,7 +56,18 @@ part-deliver-start : tie.Need-part-deliver-start
 part-deliver-start c = search needs
 
 part-deliver-end : tie.Need-part-deliver-end
-part-deliver-end c = let h = made-inside (drawing-room (c .before .before .before .before .before .before .before .before .before .before .before .before .args .room .now) (c .before .before .before .before .before .before .before .before .before .before .before .before .args .numbers .now) (c .before .before .before .before .before .before .before .before .before .before .before .before .args .places .now) (c .before .before .before .before .before .before .before .before .before .before .before .before .args .total) (c .before .before .before .before .before .before .before .before .before .before .before .before .pre .1) (c .before .before .before .before .before .before .before .before .before .before .before .before .pre .0) (λ v. omega (arith, c .before .before .before .before .before .before .before .before .before .before .shared-slice-known2 .given v)) (omega arith)) (c .before .before .before .put-drawing .ensures) in omega arith
+part-deliver-end c =
+    let start = c .before .before .before .before .before .before .before .before .before .before .before .before in
+    let places = start .args .places .now in
+    let numbers = start .args .numbers .now in
+    let shared-slice-known2 = c .before .before .before .before .before .before .before .before .before .before .shared-slice-known2 in
+    let put-drawing = c .before .before .before .put-drawing in
+    let h =
+    made-inside
+    (drawing-room (start .args .room .now) numbers places (start .args .total) (start .pre .1) (start .pre .0)
+    (λ v. omega (arith, shared-slice-known2 .given v)) (omega arith))
+    (put-drawing .ensures) in
+    omega arith
 
 deliver-requires : tie.Need-deliver-requires
 deliver-requires c κs = search needs
@@ -47,7 +79,25 @@ same-length-2 : tie.Need-same-length-2
 same-length-2 c = search needs
 
 returns-2 : tie.Need-returns-2
-returns-2 c = let e = text-is (c .before .before .before .before .before .before .before .before .before .before .before .before .before .before .before .before .before .args .numbers .now) (c .before .before .before .before .before .before .before .before .before .before .before .before .before .before .before .before .before .args .places .now) (c .before .before .before .before .before .before .before .before .before .before .before .before .before .before .before .before .before .args .total) (all-before (c .before .before .before .before .before .before .before .before .before .before .before .before .before .before .before .before .before .args .numbers .now) (length (c .before .before .before .before .before .before .before .before .before .before .before .before .before .before .before .before .before .args .places .now)) (c .before .before .before .before .before .before .before .before .before .before .before .before .locate .ensures) (c .before .before .before .before .before .before .before .before .before .before .enum-told .given .1)) in let room = (drawing-room (c .before .before .before .before .before .before .before .before .before .before .before .before .before .before .before .before .before .args .room .now) (c .before .before .before .before .before .before .before .before .before .before .before .before .before .before .before .before .before .args .numbers .now) (c .before .before .before .before .before .before .before .before .before .before .before .before .before .before .before .before .before .args .places .now) (c .before .before .before .before .before .before .before .before .before .before .before .before .before .before .before .before .before .args .total) (c .before .before .before .before .before .before .before .before .before .before .before .before .before .before .before .before .before .pre .1) (c .before .before .before .before .before .before .before .before .before .before .before .before .before .before .before .before .before .pre .0) (λ v. omega (arith, c .before .before .before .before .before .before .before .before .before .before .before .before .before .before .before .shared-slice-known2 .given v)) (omega arith)) in (made-answer room (c .before .before .before .before .before .before .before .before .put-drawing .ensures) _ (c .before .before .deliver .ensures .0) ∙ sym (ap (answered _) e), made-slice room (c .before .before .before .before .before .before .before .before .put-drawing .ensures) _ (c .before .before .deliver .ensures .1) ∙ sym (ap (λ k. filled k (c .before .before .before .before .before .before .before .before .before .before .before .before .before .before .before .before .before .args .text .now)) e))
+returns-2 c =
+    let put-drawing = c .before .before .before .before .before .before .before .before .put-drawing in
+    let deliver = c .before .before .deliver in
+    let start = c .before .before .before .before .before .before .before .before .before .before .before .before .before .before .before .before .before in
+    let places = start .args .places .now in
+    let numbers = start .args .numbers .now in
+    let locate = c .before .before .before .before .before .before .before .before .before .before .before .before .locate in
+    let enum-told = c .before .before .before .before .before .before .before .before .before .before .enum-told in
+    let shared-slice-known2 = c .before .before .before .before .before .before .before .before .before .before .before .before .before .before .before .shared-slice-known2 in
+    let e =
+    text-is numbers places (start .args .total)
+    (all-before numbers (length places) (locate .ensures) (enum-told .given .1)) in
+    let room =
+    (drawing-room (start .args .room .now) numbers places (start .args .total) (start .pre .1) (start .pre .0)
+    (λ v. omega (arith, shared-slice-known2 .given v)) (omega arith)) in (
+      made-answer room (put-drawing .ensures) _ (deliver .ensures .0) ∙ sym (ap (answered _) e),
+      made-slice room (put-drawing .ensures) _ (deliver .ensures .1) ∙ sym
+          (ap (λ k. filled k (start .args .text .now)) e),
+    )
 
 pub drawing-within-spec : {M : Type 1} → statement M
 drawing-within-spec =

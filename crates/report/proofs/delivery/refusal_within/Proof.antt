@@ -7,7 +7,9 @@ use Rattle.report.proofs.delivery.refusal_within.Statement.{statement}
 use Rattle.report.proofs.delivery.refusal_within.Tie as tie
 
 put-refusal-requires : tie.Need-put-refusal-requires
-put-refusal-requires c κs = (refusal-room (c .before .before .before .args .room .now) (c .before .before .before .args .refusal) (c .before .before .before .pre) (omega arith) (omega arith))
+put-refusal-requires c κs =
+    let start = c .before .before .before in
+    (refusal-room (start .args .room .now) (start .args .refusal) (start .pre) (omega arith) (omega arith))
 
 sub-deliver : tie.Need-sub-deliver
 sub-deliver c = search needs
@@ -16,7 +18,14 @@ part-deliver-start : tie.Need-part-deliver-start
 part-deliver-start c = search needs
 
 part-deliver-end : tie.Need-part-deliver-end
-part-deliver-end c = let h = made-inside (refusal-room (c .before .before .before .before .before .before .before .args .room .now) (c .before .before .before .before .before .before .before .args .refusal) (c .before .before .before .before .before .before .before .pre) (omega arith) (omega arith)) (c .before .before .before .put-refusal .ensures) in omega arith
+part-deliver-end c =
+    let start = c .before .before .before .before .before .before .before in
+    let put-refusal = c .before .before .before .put-refusal in
+    let h =
+    made-inside
+    (refusal-room (start .args .room .now) (start .args .refusal) (start .pre) (omega arith) (omega arith))
+    (put-refusal .ensures) in
+    omega arith
 
 deliver-requires : tie.Need-deliver-requires
 deliver-requires c κs = search needs
@@ -29,7 +38,15 @@ same-length-2 c = search needs
 
 returns : tie.Need-returns
 unfolding refusal-text
-returns c = let room = (refusal-room (c .before .before .before .before .before .before .before .before .before .before .before .before .args .room .now) (c .before .before .before .before .before .before .before .before .before .before .before .before .args .refusal) (c .before .before .before .before .before .before .before .before .before .before .before .before .pre) (omega arith) (omega arith)) in (made-answer room (c .before .before .before .before .before .before .before .before .put-refusal .ensures) _ (c .before .before .deliver .ensures .0), made-slice room (c .before .before .before .before .before .before .before .before .put-refusal .ensures) _ (c .before .before .deliver .ensures .1))
+returns c =
+    let put-refusal = c .before .before .before .before .before .before .before .before .put-refusal in
+    let deliver = c .before .before .deliver in
+    let start = c .before .before .before .before .before .before .before .before .before .before .before .before in
+    let room =
+    (refusal-room (start .args .room .now) (start .args .refusal) (start .pre) (omega arith) (omega arith)) in (
+      made-answer room (put-refusal .ensures) _ (deliver .ensures .0),
+      made-slice room (put-refusal .ensures) _ (deliver .ensures .1),
+    )
 
 pub refusal-within-spec : {M : Type 1} → statement M
 refusal-within-spec =

@@ -8,22 +8,44 @@ use Rattle.report.proofs.lines.put_node.Tie as tie
 
 put-field-requires : tie.Need-put-field-requires
 unfolding node-line
-put-field-requires c κs = room-first (field (c .before .before .args .layer) space) (field (c .before .before .args .position) space) (room-first ((field (c .before .before .args .layer) space) ++ (field (c .before .before .args .position) space)) (field (c .before .before .args .place) newline) (c .before .before .pre))
+put-field-requires c κs =
+    let start = c .before .before in
+    let place-field = field (start .args .place) newline in
+    let position-field = field (start .args .position) space in
+    let layer-field = field (start .args .layer) space in
+    room-first layer-field position-field
+    (room-first (layer-field ++ position-field) place-field (start .pre))
 
 put-field-requires-2 : tie.Need-put-field-requires-2
 unfolding node-line
-put-field-requires-2 c κs = room-next (field (c .before .before .before .before .before .before .args .position) space) (c .before .before .before .put-field .ensures) (room-first ((field (c .before .before .before .before .before .before .args .layer) space) ++ (field (c .before .before .before .before .before .before .args .position) space)) (field (c .before .before .before .before .before .before .args .place) newline) (c .before .before .before .before .before .before .pre))
+put-field-requires-2 c κs =
+    let start = c .before .before .before .before .before .before in
+    let place-field = field (start .args .place) newline in
+    let position-field = field (start .args .position) space in
+    let layer-field = field (start .args .layer) space in
+    let put-field = c .before .before .before .put-field in
+    room-next position-field (put-field .ensures)
+    (room-first (layer-field ++ position-field) place-field (start .pre))
 
 put-field-requires-3 : tie.Need-put-field-requires-3
 unfolding node-line
-put-field-requires-3 c κs = room-next (field (c .before .before .before .before .before .before .before .before .before .before .args .place) newline) (puts-then (c .before .before .before .before .before .before .before .put-field .ensures) (c .before .before .before .put-field2 .ensures)) (c .before .before .before .before .before .before .before .before .before .before .pre)
+put-field-requires-3 c κs =
+    let start = c .before .before .before .before .before .before .before .before .before .before in
+    let place-field = field (start .args .place) newline in
+    let put-field = c .before .before .before .before .before .before .before .put-field in
+    let put-field2 = c .before .before .before .put-field2 in
+    room-next place-field (puts-then (put-field .ensures) (put-field2 .ensures)) (start .pre)
 
 same-length : tie.Need-same-length
 same-length c = search needs
 
 returns : tie.Need-returns
 unfolding node-line
-returns c = puts-then (puts-then (c .before .before .before .before .before .before .before .before .before .before .put-field .ensures) (c .before .before .before .before .before .before .put-field2 .ensures)) (c .before .before .put-field3 .ensures)
+returns c =
+    let put-field = c .before .before .before .before .before .before .before .before .before .before .put-field in
+    let put-field2 = c .before .before .before .before .before .before .put-field2 in
+    let put-field3 = c .before .before .put-field3 in
+    puts-then (puts-then (put-field .ensures) (put-field2 .ensures)) (put-field3 .ensures)
 
 pub put-node-spec : {M : Type 1} → statement M
 put-node-spec =

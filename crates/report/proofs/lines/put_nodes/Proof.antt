@@ -29,7 +29,12 @@ same-length : tie.Need-same-length Inv-loop μ-loop
 same-length c = c .before .before .before .before .loop .inv .left .size
 
 returns : tie.Need-returns Inv-loop μ-loop
-returns c = nodes-end (c .before .before .before .before .loop .inv) (all-before (c .before .before .before .before .before .before .before .before .args .numbers .now) (c .before .before .before .before .loop .v) (c .before .before .locate .ensures) (c .enum-told .given .1))
+returns c =
+    let loop = c .before .before .before .before .loop in
+    let start = c .before .before .before .before .before .before .before .before in
+    let locate = c .before .before .locate in
+    nodes-end (loop .inv)
+    (all-before (start .args .numbers .now) (loop .v) (locate .ensures) (c .enum-told .given .1))
 
 mul-put-node : tie.Need-mul-put-node Inv-loop μ-loop
 mul-put-node c = search needs
@@ -38,7 +43,13 @@ shared-slice-read-put-node : tie.Need-shared-slice-read-put-node Inv-loop μ-loo
 shared-slice-read-put-node c = search needs
 
 put-node-requires : tie.Need-put-node-requires Inv-loop μ-loop
-put-node-requires c κs = node-room (c .before .before .before .before .before .before .before .loop .inv) (at-node (c .before .before .before .before .before .before .before .before .before .before .before .args .numbers .now) (c .before .before .before .before .before .before .before .loop .v) (c .before .before .before .before .before .locate .ensures) (c .before .before .before .location .given .1)) (c .before .before .before .before .before .before .before .before .before .before .before .pre .1 .1)
+put-node-requires c κs =
+    let loop = c .before .before .before .before .before .before .before .loop in
+    let start = c .before .before .before .before .before .before .before .before .before .before .before in
+    let locate = c .before .before .before .before .before .locate in
+    let location = c .before .before .before .location in
+    node-room (loop .inv) (at-node (start .args .numbers .now) (loop .v) (locate .ensures) (location .given .1))
+    (start .pre .1 .1)
 
 add-v : tie.Need-add-v Inv-loop μ-loop
 add-v c = search needs
@@ -47,7 +58,14 @@ loop-less : tie.Need-loop-less Inv-loop μ-loop
 loop-less c = search needs
 
 loop-again : tie.Need-loop-again Inv-loop μ-loop
-loop-again c = nodes-next (c .before .before .before .before .before .before .before .before .before .before .loop .inv) (at-node (c .before .before .before .before .before .before .before .before .before .before .before .before .before .before .args .numbers .now) (c .before .before .before .before .before .before .before .before .before .before .loop .v) (c .before .before .before .before .before .before .before .before .locate .ensures) (c .before .before .before .before .before .before .location .given .1)) (c .before .before .put-node .ensures)
+loop-again c =
+    let loop = c .before .before .before .before .before .before .before .before .before .before .loop in
+    let start = c .before .before .before .before .before .before .before .before .before .before .before .before .before .before in
+    let locate = c .before .before .before .before .before .before .before .before .locate in
+    let location = c .before .before .before .before .before .before .location in
+    let put-node = c .before .before .put-node in
+    nodes-next (loop .inv) (at-node (start .args .numbers .now) (loop .v) (locate .ensures) (location .given .1))
+    (put-node .ensures)
 
 same-length-2 : tie.Need-same-length-2 Inv-loop μ-loop
 same-length-2 c = c .before .loop .inv .left .size

@@ -11,32 +11,62 @@ slice-aggregate-put c = search needs
 
 put-requires : tie.Need-put-requires
 unfolding refusal-line
-put-requires c κs = room-first refused-word (field (c .before .before .before .args .refusal .number) space) (room-first (refused-word ++ (field (c .before .before .before .args .refusal .number) space)) at-word (room-first (refused-word ++ (field (c .before .before .before .args .refusal .number) space) ++ at-word) (field (c .before .before .before .args .refusal .offset) newline) (c .before .before .before .pre)))
+put-requires c κs =
+    let start = c .before .before .before in
+    let offset-field = field (start .args .refusal .offset) newline in
+    let number-field = field (start .args .refusal .number) space in
+    room-first refused-word number-field
+    (room-first (refused-word ++ number-field) at-word (room-first (refused-word ++ number-field ++ at-word) offset-field (start .pre)))
 
 cast-put-field : tie.Need-cast-put-field
 cast-put-field c = search needs
 
 put-field-requires : tie.Need-put-field-requires
 unfolding refusal-line
-put-field-requires c κs = room-next (field (c .before .before .before .before .before .before .before .before .args .refusal .number) space) (c .before .before .before .before .put .ensures) (room-first (refused-word ++ (field (c .before .before .before .before .before .before .before .before .args .refusal .number) space)) at-word (room-first (refused-word ++ (field (c .before .before .before .before .before .before .before .before .args .refusal .number) space) ++ at-word) (field (c .before .before .before .before .before .before .before .before .args .refusal .offset) newline) (c .before .before .before .before .before .before .before .before .pre)))
+put-field-requires c κs =
+    let start = c .before .before .before .before .before .before .before .before in
+    let offset-field = field (start .args .refusal .offset) newline in
+    let number-field = field (start .args .refusal .number) space in
+    let put = c .before .before .before .before .put in
+    room-next number-field (put .ensures)
+    (room-first (refused-word ++ number-field) at-word (room-first (refused-word ++ number-field ++ at-word) offset-field (start .pre)))
 
 slice-aggregate-put-2 : tie.Need-slice-aggregate-put-2
 slice-aggregate-put-2 c = search needs
 
 put-requires-2 : tie.Need-put-requires-2
 unfolding refusal-line
-put-requires-2 c κs = room-next at-word (puts-then (c .before .before .before .before .before .before .before .before .before .put .ensures) (c .before .before .before .before .put-field .ensures)) (room-first (refused-word ++ (field (c .before .before .before .before .before .before .before .before .before .before .before .before .before .args .refusal .number) space) ++ at-word) (field (c .before .before .before .before .before .before .before .before .before .before .before .before .before .args .refusal .offset) newline) (c .before .before .before .before .before .before .before .before .before .before .before .before .before .pre))
+put-requires-2 c κs =
+    let put = c .before .before .before .before .before .before .before .before .before .put in
+    let put-field = c .before .before .before .before .put-field in
+    let start = c .before .before .before .before .before .before .before .before .before .before .before .before .before in
+    let offset-field = field (start .args .refusal .offset) newline in
+    let number-field = field (start .args .refusal .number) space in
+    room-next at-word (puts-then (put .ensures) (put-field .ensures))
+    (room-first (refused-word ++ number-field ++ at-word) offset-field (start .pre))
 
 put-field-requires-2 : tie.Need-put-field-requires-2
 unfolding refusal-line
-put-field-requires-2 c κs = room-next (field (c .before .before .before .before .before .before .before .before .before .before .before .before .before .before .before .before .before .args .refusal .offset) newline) (puts-then (puts-then (c .before .before .before .before .before .before .before .before .before .before .before .before .before .put .ensures) (c .before .before .before .before .before .before .before .before .put-field .ensures)) (c .before .before .before .put2 .ensures)) (c .before .before .before .before .before .before .before .before .before .before .before .before .before .before .before .before .before .pre)
+put-field-requires-2 c κs =
+    let start = c .before .before .before .before .before .before .before .before .before .before .before .before .before .before .before .before .before in
+    let offset-field = field (start .args .refusal .offset) newline in
+    let put = c .before .before .before .before .before .before .before .before .before .before .before .before .before .put in
+    let put-field = c .before .before .before .before .before .before .before .before .put-field in
+    let put2 = c .before .before .before .put2 in
+    room-next offset-field
+    (puts-then (puts-then (put .ensures) (put-field .ensures)) (put2 .ensures)) (start .pre)
 
 same-length : tie.Need-same-length
 same-length c = search needs
 
 returns : tie.Need-returns
 unfolding refusal-line
-returns c = puts-then (puts-then (puts-then (c .before .before .before .before .before .before .before .before .before .before .before .before .before .before .before .before .put .ensures) (c .before .before .before .before .before .before .before .before .before .before .before .put-field .ensures)) (c .before .before .before .before .before .before .put2 .ensures)) (c .before .before .put-field2 .ensures)
+returns c =
+    let put = c .before .before .before .before .before .before .before .before .before .before .before .before .before .before .before .before .put in
+    let put-field = c .before .before .before .before .before .before .before .before .before .before .before .put-field in
+    let put2 = c .before .before .before .before .before .before .put2 in
+    let put-field2 = c .before .before .put-field2 in
+    puts-then (puts-then (puts-then (put .ensures) (put-field .ensures)) (put2 .ensures)) (put-field2 .ensures)
 
 pub put-refusal-spec : {M : Type 1} → statement M
 put-refusal-spec =

@@ -10,11 +10,16 @@ slice-aggregate-put c = search needs
 
 put-requires : tie.Need-put-requires
 unfolding total-line
-put-requires c κs = room-first total-word (field (c .before .before .before .args .total) newline) (c .before .before .before .pre)
+put-requires c κs =
+    let start = c .before .before .before in
+    room-first total-word (field (start .args .total) newline) (start .pre)
 
 put-field-requires : tie.Need-put-field-requires
 unfolding total-line
-put-field-requires c κs = room-next (field (c .before .before .before .before .before .before .before .args .total) newline) (c .before .before .before .put .ensures) (c .before .before .before .before .before .before .before .pre)
+put-field-requires c κs =
+    let start = c .before .before .before .before .before .before .before in
+    let put = c .before .before .before .put in
+    room-next (field (start .args .total) newline) (put .ensures) (start .pre)
 
 same-length : tie.Need-same-length
 same-length c = search needs

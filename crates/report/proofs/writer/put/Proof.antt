@@ -20,10 +20,17 @@ shared-slice-read-text : tie.Need-shared-slice-read-text Inv-loop μ-loop
 shared-slice-read-text c = search needs
 
 slice-write-text : tie.Need-slice-write-text Inv-loop μ-loop
-slice-write-text c = copy-room (c .before .before .loop .i) (c .before .before .loop .inv .1) (c .before .before .before .pre) (c .before .loop-test .taken)
+slice-write-text c =
+    let loop = c .before .before .loop in
+    let start = c .before .before .before in
+    copy-room (loop .i) (loop .inv .1) (start .pre) (c .before .loop-test .taken)
 
 add-next : tie.Need-add-next Inv-loop μ-loop
-add-next c = let room = copy-room (c .before .before .loop .i) (c .before .before .loop .inv .1) (c .before .before .before .pre) (c .before .loop-test .taken) in omega arith
+add-next c =
+    let loop = c .before .before .loop in
+    let start = c .before .before .before in
+    let room = copy-room (loop .i) (loop .inv .1) (start .pre) (c .before .loop-test .taken) in
+    omega arith
 
 add-i : tie.Need-add-i Inv-loop μ-loop
 add-i c = search needs
@@ -32,7 +39,9 @@ loop-less : tie.Need-loop-less Inv-loop μ-loop
 loop-less c = search needs
 
 loop-again : tie.Need-loop-again Inv-loop μ-loop
-loop-again c = (omega arith, copy-next (c .before .before .loop .i) (c .before .before .loop .inv .1) (c .before .loop-test .taken))
+loop-again c =
+    let loop = c .before .before .loop in
+    (omega arith, copy-next (loop .i) (loop .inv .1) (c .before .loop-test .taken))
 
 same-length : tie.Need-same-length Inv-loop μ-loop
 same-length c = c .before .loop .inv .1 .size

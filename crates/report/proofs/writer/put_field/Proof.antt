@@ -18,19 +18,40 @@ part-put-end : tie.Need-part-put-end
 part-put-end c = search needs
 
 put-requires : tie.Need-put-requires
-put-requires c κs = digits-room (c .before .before .before .before .before .before .args .n) (c .before .before .before .decimal .result) _ (c .before .before .before .decimal .ensures .1 .0) (c .before .before .before .decimal .ensures .1 .1) (c .before .before .before .before .before .before .args .stop) (c .before .before .before .before .before .before .pre)
+put-requires c κs =
+    let start = c .before .before .before .before .before .before in
+    let decimal = c .before .before .before .decimal in
+    digits-room (start .args .n) (decimal .result) _ (decimal .ensures .1 .0) (decimal .ensures .1 .1)
+    (start .args .stop) (start .pre)
 
 slice-write-text : tie.Need-slice-write-text
-slice-write-text c = stop-room (c .before .before .before .before .before .before .before .before .before .args .n) (c .before .before .before .before .before .before .decimal .result) _ (c .before .before .before .before .before .before .decimal .ensures .1 .0) (c .before .before .before .before .before .before .decimal .ensures .1 .1) (c .before .before .before .before .before .before .before .before .before .args .stop) (c .before .before .put .ensures) (c .before .before .before .before .before .before .before .before .before .pre)
+slice-write-text c =
+    let start = c .before .before .before .before .before .before .before .before .before in
+    let decimal = c .before .before .before .before .before .before .decimal in
+    let put = c .before .before .put in
+    stop-room (start .args .n) (decimal .result) _ (decimal .ensures .1 .0) (decimal .ensures .1 .1)
+    (start .args .stop) (put .ensures) (start .pre)
 
 add-result : tie.Need-add-result
-add-result c = let room = stop-room (c .before .before .before .before .before .before .before .before .before .args .n) (c .before .before .before .before .before .before .decimal .result) _ (c .before .before .before .before .before .before .decimal .ensures .1 .0) (c .before .before .before .before .before .before .decimal .ensures .1 .1) (c .before .before .before .before .before .before .before .before .before .args .stop) (c .before .before .put .ensures) (c .before .before .before .before .before .before .before .before .before .pre) in omega arith
+add-result c =
+    let start = c .before .before .before .before .before .before .before .before .before in
+    let decimal = c .before .before .before .before .before .before .decimal in
+    let put = c .before .before .put in
+    let room =
+    stop-room (start .args .n) (decimal .result) _ (decimal .ensures .1 .0) (decimal .ensures .1 .1)
+    (start .args .stop) (put .ensures) (start .pre) in
+    omega arith
 
 same-length : tie.Need-same-length
 same-length c = search needs
 
 returns : tie.Need-returns
-returns c = field-stored (c .before .before .before .before .before .before .before .before .before .args .n) (c .before .before .before .before .before .before .decimal .result) _ (c .before .before .before .before .before .before .decimal .ensures .1 .0) (c .before .before .before .before .before .before .decimal .ensures .1 .1) (c .before .before .before .before .before .before .before .before .before .args .stop) (c .before .before .put .ensures)
+returns c =
+    let start = c .before .before .before .before .before .before .before .before .before in
+    let decimal = c .before .before .before .before .before .before .decimal in
+    let put = c .before .before .put in
+    field-stored (start .args .n) (decimal .result) _ (decimal .ensures .1 .0) (decimal .ensures .1 .1)
+    (start .args .stop) (put .ensures)
 
 pub put-field-spec : {M : Type 1} → statement M
 put-field-spec =

@@ -24,13 +24,19 @@ add-t9 : tie.Need-add-t9 Inv-loop μ-loop
 add-t9 c = omega (arith, c .before .number2 .ensures .1)
 
 returns : tie.Need-returns Inv-loop μ-loop
-returns c = search-here (c .before .before .before .loop .inv) (c .before .before .loop-test .taken) (c .before .number2 .ensures) (c .if1 .taken)
+returns c =
+    let loop = c .before .before .before .loop in
+    let loop-test = c .before .before .loop-test in
+    search-here (loop .inv) (loop-test .taken) (c .before .number2 .ensures) (c .if1 .taken)
 
 layer-size-requires : tie.Need-layer-size-requires Inv-loop μ-loop
 layer-size-requires c κs = c .before .number2 .ensures .1
 
 add-at : tie.Need-add-at Inv-loop μ-loop
-add-at c = omega (arith, c .before .before .before .before .loop .inv .turns, c .before .before .before .before .loop .inv .inside, c .before .before .number2 .ensures .1, c .layer-size .ensures)
+add-at c =
+    let loop = c .before .before .before .before .loop in
+    let number2 = c .before .before .number2 in
+    omega (arith, loop .inv .turns, loop .inv .inside, number2 .ensures .1, c .layer-size .ensures)
 
 add-layer : tie.Need-add-layer Inv-loop μ-loop
 add-layer c = omega (arith, c .before .before .before .before .loop .inv .turns)
@@ -42,7 +48,11 @@ loop-less : tie.Need-loop-less Inv-loop μ-loop
 loop-less c = search needs
 
 loop-again : tie.Need-loop-again Inv-loop μ-loop
-loop-again c = search-next (c .before .before .before .before .loop .inv) (c .before .before .before .loop-test .taken) (c .before .before .number2 .ensures) (c .layer-size .ensures) (omega arith)
+loop-again c =
+    let loop = c .before .before .before .before .loop in
+    let loop-test = c .before .before .before .loop-test in
+    let number2 = c .before .before .number2 in
+    search-next (loop .inv) (loop-test .taken) (number2 .ensures) (c .layer-size .ensures) (omega arith)
 
 returns-2 : tie.Need-returns-2 Inv-loop μ-loop
 returns-2 c = search-end (c .before .loop .inv) (omega arith)
