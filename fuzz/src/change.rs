@@ -1,13 +1,13 @@
 //! Changes of good sheets that keep them good.
 
-use second::draft::{Draft, Edge, Separation};
-use second::generate::{good, small};
-use second::planted::{planted, Plan};
-use second::random::Random;
 use second::sheet::{
     EDGE_LIMIT, LAYER_LIMIT, LAYER_NODE_LIMIT, NODE_LIMIT, PLAIN, SEPARATION_LIMIT, STRAIGHT,
     WIDTH_LIMIT,
 };
+use strip_tests::draft::{Draft, Edge, Separation};
+use strip_tests::generate::{good, small};
+use strip_tests::planted::{planted, Plan};
+use strip_tests::random::Random;
 
 use crate::parts::{count, fit, parts};
 

@@ -1,7 +1,7 @@
 //! A library with a deliberate fault, which the self-test must find.
 
-use second::compare::Library;
 use second::refusal::Refusal;
+use strip_tests::compare::Library;
 
 use crate::library::Proved;
 

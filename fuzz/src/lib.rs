@@ -12,8 +12,8 @@ mod parts;
 
 use std::slice;
 
-use second::compare;
-use second::random::Random;
+use strip_tests::compare;
+use strip_tests::random::Random;
 
 #[cfg(feature = "fault")]
 use fault::Faulty as Tried;

@@ -1,7 +1,7 @@
 //! A good sheet in its parts, and parts made to fit each other.
 
-use second::draft::{Draft, Edge, Separation};
 use second::sheet::{read, NUMBER_LIMIT};
+use strip_tests::draft::{Draft, Edge, Separation};
 
 /// The parts of a sheet; none where it is not good.
 pub fn parts(bytes: &[u8]) -> Option<Draft> {

@@ -4,10 +4,10 @@ use std::hint::black_box;
 use std::time::{Duration, Instant};
 
 use second::certificate;
-use second::draft::Draft;
-use second::families::conflicts::spiral;
-use second::planted::{planted, Plan};
-use second::random::Random;
+use strip_tests::draft::Draft;
+use strip_tests::families::conflicts::spiral;
+use strip_tests::planted::{planted, Plan};
+use strip_tests::random::Random;
 
 /// How many different sheets there are of each size.
 const SHEETS: usize = 20;

@@ -1,4 +1,4 @@
-//! Compares a library with this package: what both answer, and what both leave in every slice.
+//! Compares a library with the second implementation: what both answer, and what both leave in every slice.
 //!
 //! Every function here panics where the two differ. Only the pull list of a drawing may be another
 //! one; both checkers must accept it.
@@ -9,9 +9,9 @@ mod format;
 mod near;
 mod tally;
 
-use crate::drawing::Sheet;
 use crate::random::Random;
-use crate::refusal::Refusal;
+use second::drawing::Sheet;
+use second::refusal::Refusal;
 
 pub use checking::judge;
 pub use format::{read, write};

@@ -1,8 +1,8 @@
 //! Damaged bytes of sheets, one kind of damage each.
 
-use crate::number;
 use crate::random::Random;
-use crate::sheet::SIGNATURE;
+use second::number;
+use second::sheet::SIGNATURE;
 
 /// A kind of damage: random bytes from those of a good sheet.
 pub type Damage = fn(&mut Random, &[u8]) -> Vec<u8>;

@@ -1,7 +1,7 @@
 //! The examples of document 01.
 
 use crate::draft::Draft;
-use crate::sheet::{PLAIN, STRAIGHT, WIDTH_LIMIT};
+use second::sheet::{PLAIN, STRAIGHT, WIDTH_LIMIT};
 
 /// The sheet with one node and no edges, in bytes.
 pub const ONE_NODE: [u8; 7] = [0x53, 0x50, 0x31, 0x00, 0x01, 0x01, 0x00];

@@ -1,8 +1,8 @@
 //! Sheets in their parts, from which the test cases are made.
 
-use crate::drawing::Sheet;
-use crate::number;
-use crate::sheet::SIGNATURE;
+use second::drawing::Sheet;
+use second::number;
+use second::sheet::SIGNATURE;
 
 /// The separation of two neighbours in a layer.
 #[derive(Clone, Debug)]

@@ -3,13 +3,13 @@
 
 mod items;
 
-use crate::certificate;
-use crate::checker::check;
-use crate::drawing::Sheet;
-use crate::engine::draw;
 use crate::generate::LONGEST;
-use crate::refusal::{Refusal, NO_DRAWING};
-use crate::sheet::{read, write, NUMBER_LIMIT};
+use second::certificate;
+use second::checker::check;
+use second::drawing::Sheet;
+use second::engine::draw;
+use second::refusal::{Refusal, NO_DRAWING};
+use second::sheet::{read, write, NUMBER_LIMIT};
 
 pub use items::items;
 

@@ -5,7 +5,7 @@
 
 use crate::document;
 use crate::draft::{Draft, Separation};
-use crate::sheet::{PLAIN, STRAIGHT};
+use second::sheet::{PLAIN, STRAIGHT};
 
 /// The examples, with the names of their files.
 pub fn examples() -> Vec<(&'static str, Draft)> {

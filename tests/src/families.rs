@@ -1,4 +1,4 @@
-//! Families of sheets on which the library and this package are compared.
+//! Families of sheets on which the library and the second implementation are compared.
 
 pub mod conflicts;
 pub mod exhaustive;

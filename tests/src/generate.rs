@@ -2,7 +2,7 @@
 
 use crate::draft::{Draft, Edge, Separation};
 use crate::random::Random;
-use crate::sheet::{
+use second::sheet::{
     EDGE_LIMIT, LAYER_LIMIT, LAYER_NODE_LIMIT, NODE_LIMIT, PLAIN, SEPARATION_LIMIT, STRAIGHT,
     WIDTH_LIMIT,
 };

@@ -1,29 +1,16 @@
-//! A second implementation of document 01, written from it alone, and the test cases.
+//! What the tests are made of: sheets by hand and at random, damage, the cases of `library_test`, and
+//! the comparison of a library with the second implementation.
 
-pub mod cancelling;
 pub mod cases;
-pub mod certificate;
-pub mod checker;
 pub mod compare;
 pub mod damage;
 pub mod document;
 pub mod draft;
-pub mod drawing;
 pub mod driver;
-pub mod engine;
 pub mod examples;
 pub mod families;
 pub mod generate;
 pub mod mutation;
-pub mod network;
-pub mod number;
 pub mod planted;
-pub mod printed;
 pub mod random;
-pub mod refusal;
-pub mod residual;
-pub mod sheet;
-pub mod simplex;
-pub mod solver;
 pub mod traps;
-pub mod tree;

@@ -1,8 +1,8 @@
 //! Changes of lists: of the bytes and numbers of sheets, of places, and of pull lists.
 
-use crate::drawing::Sheet;
-use crate::network::arcs;
 use crate::random::Random;
+use second::drawing::Sheet;
+use second::network::arcs;
 
 /// The list cut off before each of its elements.
 pub fn truncated<T: Clone>(list: &[T]) -> Vec<Vec<T>> {

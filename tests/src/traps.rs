@@ -3,9 +3,9 @@
 
 use crate::document;
 use crate::draft::Draft;
-use crate::drawing::{is_drawing, total, Separation, Sheet};
-use crate::sheet::{PLAIN, WIDTH_LIMIT};
-use crate::solver::solve;
+use second::drawing::{is_drawing, total, Separation, Sheet};
+use second::sheet::{PLAIN, WIDTH_LIMIT};
+use second::solver::solve;
 
 /// A sheet, and what the trap draws on it.
 pub struct Trap {

@@ -1,14 +1,14 @@
 //! Pull lists, against the rules of document 01 written out by hand, and brute force.
 
 use second::certificate::{floor, length, meets_rules};
-use second::document::{self, FIRST_LIST};
-use second::draft::Draft;
 use second::drawing::{least_drawings, Sheet};
-use second::generate::{good, tiny};
-use second::mutation::circulate;
-use second::random::Random;
 use second::sheet::{PLAIN, STRAIGHT};
 use second::solver::solve;
+use strip_tests::document::{self, FIRST_LIST};
+use strip_tests::draft::Draft;
+use strip_tests::generate::{good, tiny};
+use strip_tests::mutation::circulate;
+use strip_tests::random::Random;
 
 /// How many random tiny sheets a test takes.
 const SHEETS: usize = 3000;

@@ -1,15 +1,15 @@
 //! The checker, against the examples of document 01 written out by hand, and brute force.
 
 use second::checker::check;
-use second::document::{self, FIRST_LIST, NO_DRAWING, ONE_NODE, REFUSED};
-use second::draft::Draft;
 use second::drawing::{drawings, least_drawings};
-use second::generate::{good, largest, tiny};
-use second::mutation::circulate;
-use second::random::Random;
 use second::refusal::Refusal;
 use second::sheet::STRAIGHT;
 use second::solver::solve;
+use strip_tests::document::{self, FIRST_LIST, NO_DRAWING, ONE_NODE, REFUSED};
+use strip_tests::draft::Draft;
+use strip_tests::generate::{good, largest, tiny};
+use strip_tests::mutation::circulate;
+use strip_tests::random::Random;
 
 /// How many random tiny sheets a test takes.
 const SHEETS: usize = 3000;

@@ -4,15 +4,15 @@ use std::panic::{catch_unwind, AssertUnwindSafe};
 
 use second::certificate;
 use second::checker;
-use second::compare::{sheet, Library};
-use second::document::{self, REFUSED};
 use second::drawing::Sheet;
 use second::engine;
-use second::families::turned::mirrored;
-use second::generate;
-use second::random::Random;
 use second::refusal::{Refusal, NO_DRAWING, SLICE_TOO_SHORT};
 use second::sheet::{self as format, NUMBER_LIMIT, PLAIN};
+use strip_tests::compare::{sheet, Library};
+use strip_tests::document::{self, REFUSED};
+use strip_tests::families::turned::mirrored;
+use strip_tests::generate;
+use strip_tests::random::Random;
 
 /// What is wrong with a library.
 #[derive(Clone, Copy, Debug, PartialEq)]

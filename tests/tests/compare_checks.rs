@@ -5,16 +5,16 @@ mod judged;
 mod library;
 
 use judged::{Drawn, Words};
-use second::compare::scale;
-use second::document;
-use second::draft::Draft;
-use second::generate;
-use second::mutation::{
+use second::sheet::STRAIGHT;
+use strip_tests::compare::scale;
+use strip_tests::document;
+use strip_tests::draft::Draft;
+use strip_tests::generate;
+use strip_tests::mutation::{
     around_layers, around_pairs, around_parallel_edges, changed, exchanged, moved_pushes,
     place_changes, pull_changes, truncated,
 };
-use second::random::Random;
-use second::sheet::STRAIGHT;
+use strip_tests::random::Random;
 
 /// What a number of a list is changed to at the ends of 32 bits.
 fn extreme_changes(n: i32) -> Vec<i32> {

@@ -3,15 +3,15 @@
 mod library;
 
 use library::Proved;
-use second::compare::{self, scale, Tally};
-use second::damage::DAMAGES;
-use second::document::REFUSED;
-use second::draft::Draft;
-use second::examples::examples;
-use second::families::{realistic, sizes};
-use second::generate;
-use second::mutation::{byte_changes, damages};
-use second::random::Random;
+use strip_tests::compare::{self, scale, Tally};
+use strip_tests::damage::DAMAGES;
+use strip_tests::document::REFUSED;
+use strip_tests::draft::Draft;
+use strip_tests::examples::examples;
+use strip_tests::families::{realistic, sizes};
+use strip_tests::generate;
+use strip_tests::mutation::{byte_changes, damages};
+use strip_tests::random::Random;
 
 /// Compares random sheets of a kind, each with damage of every kind.
 fn compare_damaged(

@@ -3,12 +3,12 @@
 mod library;
 
 use library::Proved;
-use second::compare::{self, scale, Outcome, Tally};
-use second::draft::Draft;
 use second::drawing::{least_drawings, leftmost};
-use second::families::{exhaustive, realistic, sizes};
-use second::generate;
-use second::random::Random;
+use strip_tests::compare::{self, scale, Outcome, Tally};
+use strip_tests::draft::Draft;
+use strip_tests::families::{exhaustive, realistic, sizes};
+use strip_tests::generate;
+use strip_tests::random::Random;
 
 /// Compares an answer with that of brute force.
 fn compare_with_brute_force(draft: &Draft, outcome: &Outcome) {

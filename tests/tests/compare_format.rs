@@ -3,12 +3,12 @@
 mod library;
 
 use library::Proved;
-use second::compare::{self, grouped, scale, Library};
-use second::draft::encode;
-use second::generate;
-use second::random::Random;
 use second::refusal::Refusal;
 use second::sheet;
+use strip_tests::compare::{self, grouped, scale, Library};
+use strip_tests::draft::encode;
+use strip_tests::generate;
+use strip_tests::random::Random;
 
 /// Counts of answers by the number of the refusal; 0 is none.
 type Answers = [usize; 10];

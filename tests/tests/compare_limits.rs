@@ -4,13 +4,13 @@
 mod library;
 
 use library::Proved;
-use second::compare::{self, scale, Tally};
-use second::draft::Draft;
-use second::families::conflicts::{any_spiral, crossed, held, spiral};
-use second::families::turned::{mirrored, upside_down};
-use second::families::{realistic, sizes, widths};
-use second::generate;
-use second::random::Random;
+use strip_tests::compare::{self, scale, Tally};
+use strip_tests::draft::Draft;
+use strip_tests::families::conflicts::{any_spiral, crossed, held, spiral};
+use strip_tests::families::turned::{mirrored, upside_down};
+use strip_tests::families::{realistic, sizes, widths};
+use strip_tests::generate;
+use strip_tests::random::Random;
 
 /// Compares sheets in the narrowest width in which they have a drawing, and next to it.
 fn compare_narrowest(kind: &str, seed: u64, count: usize, draft: impl Fn(&mut Random) -> Draft) {

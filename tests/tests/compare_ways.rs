@@ -6,14 +6,14 @@ mod library;
 
 use judged::{Drawn, Words};
 use second::certificate;
-use second::compare::scale;
-use second::draft::Draft;
 use second::drawing::Sheet;
-use second::families::turned::mirrored;
-use second::families::{realistic, sizes};
-use second::generate;
-use second::mutation::circulate;
-use second::random::Random;
+use strip_tests::compare::scale;
+use strip_tests::draft::Draft;
+use strip_tests::families::turned::mirrored;
+use strip_tests::families::{realistic, sizes};
+use strip_tests::generate;
+use strip_tests::mutation::circulate;
+use strip_tests::random::Random;
 
 /// The rightmost least drawing: the leftmost one of the mirrored sheet, mirrored.
 fn rightmost(draft: &Draft, sheet: &Sheet) -> Vec<u16> {

@@ -1,13 +1,13 @@
 //! Drawings and totals, against the sheets of document 01 written out by hand, and brute force.
 
-use second::document;
-use second::draft::Draft;
 use second::drawing::{
     drawings, is_drawing, least_drawings, leftmost, total, Edge, Layer, Separation, Sheet,
 };
-use second::generate::tiny;
-use second::random::Random;
 use second::sheet::{PLAIN, STRAIGHT};
+use strip_tests::document;
+use strip_tests::draft::Draft;
+use strip_tests::generate::tiny;
+use strip_tests::random::Random;
 
 /// How many random tiny sheets a test takes.
 const SHEETS: usize = 3000;

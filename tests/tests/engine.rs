@@ -1,16 +1,16 @@
 //! The engine: document 01's answers, refusals, and the stored cases against brute force.
 
-use second::cases::draw;
 use second::certificate;
 use second::checker::check;
-use second::document::{self, NO_DRAWING, ONE_NODE, REFUSED};
-use second::draft::Draft;
 use second::drawing::{least_drawings, leftmost, Sheet};
 use second::engine;
-use second::planted::{planted, Plan};
-use second::random::Random;
 use second::refusal::Refusal;
 use second::sheet::{read, NUMBER_LIMIT, STRAIGHT};
+use strip_tests::cases::draw;
+use strip_tests::document::{self, NO_DRAWING, ONE_NODE, REFUSED};
+use strip_tests::draft::Draft;
+use strip_tests::planted::{planted, Plan};
+use strip_tests::random::Random;
 
 /// What the slices hold before a call.
 const BEFORE: (u16, i32) = (0xa5a5, -7);

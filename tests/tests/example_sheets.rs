@@ -1,11 +1,11 @@
-//! The example sheets have drawings, and their stored files are the ones that this package computes.
+//! The example sheets have drawings, and their stored files are what the second implementation draws.
 
 use std::fs;
 use std::path::{Path, PathBuf};
 
-use second::examples::examples;
 use second::printed::printed;
 use second::sheet::STRAIGHT;
+use strip_tests::examples::examples;
 
 /// The command that writes the stored files anew, from the root of the repository.
 const REWRITE: &str = "cargo run --release --bin example_sheets -- examples";

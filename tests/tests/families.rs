@@ -2,15 +2,15 @@
 
 use std::collections::HashSet;
 
-use second::damage::DAMAGES;
-use second::draft::Draft;
 use second::drawing::{total, Sheet};
-use second::families::conflicts::{crossed, held};
-use second::families::turned::{mirrored, upside_down};
-use second::families::{exhaustive, realistic, sizes, widths};
-use second::random::Random;
 use second::sheet::{read, NUMBER_LIMIT};
 use second::solver::solve;
+use strip_tests::damage::DAMAGES;
+use strip_tests::draft::Draft;
+use strip_tests::families::conflicts::{crossed, held};
+use strip_tests::families::turned::{mirrored, upside_down};
+use strip_tests::families::{exhaustive, realistic, sizes, widths};
+use strip_tests::random::Random;
 
 /// The sheet of a draft, which must be good.
 fn good(draft: &Draft) -> Sheet {

@@ -7,10 +7,10 @@ use std::fs::{self, File};
 use std::path::{Path, PathBuf};
 use std::process::{Command, Stdio};
 
-use second::document::{stair, NO_DRAWING, REFUSED};
-use second::examples::examples;
 use second::printed::printed;
 use second::sheet::PLAIN;
+use strip_tests::document::{stair, NO_DRAWING, REFUSED};
+use strip_tests::examples::examples;
 use tools::{compiler, folder, output, python, root, run_in, shared_library, LIBRARY};
 
 /// Checks the exit status, the output, and how many lines of errors a command leaves.

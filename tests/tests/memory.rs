@@ -11,7 +11,7 @@ use std::process::{Command, Output, Stdio};
 use std::time::Duration;
 
 use process::run;
-use second::driver::{calls, items, Item};
+use strip_tests::driver::{calls, items, Item};
 use tools::{compiler, folder, output, LIBRARY};
 
 /// How long one run of the driver may take.
@@ -172,7 +172,7 @@ fn the_address_sanitizer_reports_an_element_too_many() {
 
 /// The first sheet of document 01.
 fn first() -> Vec<u8> {
-    second::document::first().bytes()
+    strip_tests::document::first().bytes()
 }
 
 /// The deliberate faults, each with an item that it shows on and the words of valgrind's report.

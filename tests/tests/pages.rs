@@ -68,6 +68,7 @@ fn paths_that_are_named_are_there() {
     let folders = [
         "crates/",
         "docs/",
+        "second/",
         "tests/",
         "examples/",
         "bindings/",

@@ -15,13 +15,13 @@ use std::thread;
 use std::time::Duration;
 
 use process::run;
-use second::damage::DAMAGES;
-use second::document::{self, NO_DRAWING, REFUSED};
-use second::examples::examples;
-use second::generate::{good, largest, LONGEST};
-use second::planted::{planted, Plan};
 use second::printed::printed;
-use second::random::Random;
+use strip_tests::damage::DAMAGES;
+use strip_tests::document::{self, NO_DRAWING, REFUSED};
+use strip_tests::examples::examples;
+use strip_tests::generate::{good, largest, LONGEST};
+use strip_tests::planted::{planted, Plan};
+use strip_tests::random::Random;
 
 /// How long one run may take.
 const LIMIT: Duration = Duration::from_secs(20);

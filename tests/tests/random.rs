@@ -3,11 +3,11 @@
 mod common;
 
 use common::{read_checked, write_checked};
-use second::draft::Draft;
-use second::generate::{fullest, good, largest, LONGEST};
-use second::random::Random;
 use second::refusal::Refusal;
 use second::sheet::{read, write, NUMBER_LIMIT};
+use strip_tests::draft::Draft;
+use strip_tests::generate::{fullest, good, largest, LONGEST};
+use strip_tests::random::Random;
 
 /// How many random good sheets a test takes.
 const SHEETS: usize = 4000;

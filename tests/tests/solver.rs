@@ -3,13 +3,13 @@
 use second::cancelling;
 use second::certificate::{floor, length};
 use second::checker::check;
-use second::document;
 use second::drawing::{least_drawings, leftmost, total};
-use second::generate::{small, tiny};
 use second::network::arcs;
-use second::planted::{planted, Plan};
-use second::random::Random;
 use second::solver::solve;
+use strip_tests::document;
+use strip_tests::generate::{small, tiny};
+use strip_tests::planted::{planted, Plan};
+use strip_tests::random::Random;
 
 /// How many random sheets a test takes.
 const SHEETS: usize = 3000;

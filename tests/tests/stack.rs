@@ -5,8 +5,8 @@ mod tools;
 use std::fs;
 use std::process::Command;
 
-use second::planted::{planted, Plan};
-use second::random::Random;
+use strip_tests::planted::{planted, Plan};
+use strip_tests::random::Random;
 use tools::{compiler, folder, output, LIBRARY};
 
 /// Sheets of full size, some of each kind.

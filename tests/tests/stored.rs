@@ -5,7 +5,7 @@ use std::fs;
 use std::path::Path;
 use std::sync::OnceLock;
 
-use second::cases::{check, draw, format, groups, input, lines, Group};
+use strip_tests::cases::{check, draw, format, groups, input, lines, Group};
 
 /// The commands that write the stored files anew, from the root of the repository.
 const REWRITE: &str = "cargo run --release --bin cases > crates/library_test/stdin; \

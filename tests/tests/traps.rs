@@ -2,7 +2,7 @@
 
 use second::drawing::{is_drawing, least_drawings, leftmost, total};
 use second::solver::solve;
-use second::traps::traps;
+use strip_tests::traps::traps;
 
 /// For each trap the answer's places and total, and the trap's total.
 const ANSWERS: [(&[u16], u32, Option<u32>); 5] = [

@@ -3,7 +3,7 @@
 use std::io::{self, Write};
 use std::process::ExitCode;
 
-use second::cases;
+use strip_tests::cases;
 
 /// Prints all cases.
 fn main() -> ExitCode {

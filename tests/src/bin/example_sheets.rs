@@ -6,8 +6,8 @@ use std::fs;
 use std::path::Path;
 use std::process::ExitCode;
 
-use second::examples::examples;
 use second::printed::printed;
+use strip_tests::examples::examples;
 
 /// Takes the folder from the command line and writes all files.
 fn main() -> ExitCode {

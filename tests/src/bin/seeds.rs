@@ -6,7 +6,7 @@ use std::fs;
 use std::path::Path;
 use std::process::ExitCode;
 
-use second::driver::{items, Item};
+use strip_tests::driver::{items, Item};
 
 /// Takes the folder from the command line and writes all files.
 fn main() -> ExitCode {

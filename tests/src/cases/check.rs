@@ -17,10 +17,10 @@ mod random;
 mod slices;
 
 use super::{Group, Line};
-use crate::cancelling::solve;
-use crate::certificate;
 use crate::draft::Draft;
-use crate::drawing;
+use second::cancelling::solve;
+use second::certificate;
+use second::drawing;
 
 /// A sheet with places and a pull list.
 #[derive(Clone)]

@@ -21,8 +21,8 @@ mod traps;
 pub(super) use line::Drawn;
 
 use super::{Group, Line};
-use crate::certificate;
 use crate::draft::Draft;
+use second::certificate;
 
 impl Group {
     /// Adds a sheet, good or bad, to be drawn into slices of these lengths.

@@ -3,7 +3,7 @@
 use std::fmt::LowerHex;
 
 use super::draw::Drawn;
-use crate::refusal::Refusal;
+use second::refusal::Refusal;
 
 /// A line of input and the line of output that answers it.
 pub struct Line {

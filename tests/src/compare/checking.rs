@@ -2,11 +2,11 @@
 
 use super::drawing::Drawn;
 use super::{near, Library, Outcome};
-use crate::certificate;
-use crate::checker;
-use crate::drawing::Sheet;
 use crate::random::Random;
-use crate::refusal::Refusal;
+use second::certificate;
+use second::checker;
+use second::drawing::Sheet;
+use second::refusal::Refusal;
 
 /// Compares what both checkers say, and gives it.
 pub fn judge(

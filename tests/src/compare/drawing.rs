@@ -1,11 +1,11 @@
 //! Comparing engines.
 
 use super::Library;
-use crate::certificate;
-use crate::checker::check;
-use crate::drawing::Sheet;
-use crate::engine;
-use crate::refusal::{Refusal, SLICE_TOO_SHORT};
+use second::certificate;
+use second::checker::check;
+use second::drawing::Sheet;
+use second::engine;
+use second::refusal::{Refusal, SLICE_TOO_SHORT};
 
 /// What every place holds before a call.
 const PLACE_FILL: u16 = 0xa5a5;
@@ -18,7 +18,7 @@ pub struct Drawn {
     pub places: Vec<u16>,
     /// The list of the library.
     pub first: Vec<i32>,
-    /// The list of this package.
+    /// The list of the second implementation.
     pub second: Vec<i32>,
 }
 

@@ -3,8 +3,8 @@
 use std::fmt::Debug;
 
 use super::Library;
-use crate::refusal::Refusal;
-use crate::sheet::{self, NUMBER_LIMIT};
+use second::refusal::Refusal;
+use second::sheet::{self, NUMBER_LIMIT};
 
 /// What every number holds before a call.
 const NUMBER_FILL: u16 = 0xa5a5;

@@ -5,7 +5,7 @@ use std::env;
 use super::{sheet, Library, Outcome};
 use crate::draft::Draft;
 use crate::random::Random;
-use crate::refusal::NO_DRAWING;
+use second::refusal::NO_DRAWING;
 
 /// How many times more sheets are compared than by default: the environment variable
 /// `STRIP_TEST_SCALE`, or 1.

@@ -8,7 +8,7 @@ use crate::generate::{fullest, good, small, tiny};
 use crate::mutation::{byte_changes, changed, damages, truncated};
 use crate::planted::{planted, Plan};
 use crate::random::Random;
-use crate::sheet::{read, EDGE_LIMIT, NODE_LIMIT, NUMBER_LIMIT};
+use second::sheet::{read, EDGE_LIMIT, NODE_LIMIT, NUMBER_LIMIT};
 
 /// All items.
 pub fn items() -> Vec<Item> {

@@ -2,7 +2,7 @@
 
 use crate::draft::{Draft, Edge};
 use crate::random::Random;
-use crate::sheet::{LAYER_LIMIT, STRAIGHT, WIDTH_LIMIT};
+use second::sheet::{LAYER_LIMIT, STRAIGHT, WIDTH_LIMIT};
 
 /// Layers of three nodes, one for each step. Straight edges make each layer stand to the right of
 /// the one above by its step, and hold the last nodes in line; in the first layer the last two are

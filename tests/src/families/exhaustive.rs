@@ -1,7 +1,7 @@
 //! All sheets within very small limits.
 
 use crate::draft::{Draft, Edge, Separation};
-use crate::sheet::{PLAIN, STRAIGHT};
+use second::sheet::{PLAIN, STRAIGHT};
 
 /// The counts of nodes, each with the greatest count of edges.
 const SHAPES: [(&[u16], usize); 9] = [

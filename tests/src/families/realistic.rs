@@ -3,7 +3,7 @@
 
 use crate::draft::{Draft, Edge, Separation};
 use crate::random::Random;
-use crate::sheet::{EDGE_LIMIT, LAYER_LIMIT, NODE_LIMIT, PLAIN, STRAIGHT, WIDTH_LIMIT};
+use second::sheet::{EDGE_LIMIT, LAYER_LIMIT, NODE_LIMIT, PLAIN, STRAIGHT, WIDTH_LIMIT};
 
 /// One such sheet.
 pub fn any(random: &mut Random) -> Draft {

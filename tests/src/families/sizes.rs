@@ -3,7 +3,7 @@
 use crate::draft::Draft;
 use crate::planted::{planted, Plan};
 use crate::random::Random;
-use crate::sheet::{EDGE_LIMIT, NODE_LIMIT};
+use second::sheet::{EDGE_LIMIT, NODE_LIMIT};
 
 /// One of some numbers.
 fn one_of(random: &mut Random, numbers: &[u16]) -> u16 {

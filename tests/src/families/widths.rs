@@ -1,8 +1,8 @@
 //! Sheets in the narrowest width, and one next to it.
 
 use crate::draft::Draft;
-use crate::sheet::WIDTH_LIMIT;
-use crate::solver::solve;
+use second::sheet::WIDTH_LIMIT;
+use second::solver::solve;
 
 /// The sheet in another width.
 pub fn in_width(draft: &Draft, width: u16) -> Draft {

@@ -1,8 +1,8 @@
 //! Calls that check on the way that nothing but the result is written.
 
-use second::generate::LONGEST;
 use second::refusal::Refusal;
 use second::sheet::{read, write, NUMBER_LIMIT};
+use strip_tests::generate::LONGEST;
 
 /// Reads into a slice longer than any sheet needs and gives the numbers, or number and offset.
 pub fn read_checked(bytes: &[u8]) -> Result<Vec<u16>, (u32, usize)> {

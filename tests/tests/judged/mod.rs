@@ -1,9 +1,9 @@
 //! Drawings of the library, and what both checkers say to places and lists.
 
 use second::certificate;
-use second::compare::{grouped, judge, Library};
-use second::draft::Draft;
 use second::drawing::Sheet;
+use strip_tests::compare::{grouped, judge, Library};
+use strip_tests::draft::Draft;
 
 use super::library::Proved;
 

@@ -1,7 +1,7 @@
 //! The proved library, for comparing it with the second implementation.
 
-use second::compare::Library;
 use second::refusal::Refusal;
+use strip_tests::compare::Library;
 
 /// The library through its Rust wrapper.
 pub struct Proved;
@@ -24,7 +24,7 @@ impl Library for Proved {
     }
 }
 
-/// A refusal of the wrapper as one of this package.
+/// A refusal of the wrapper as one of the second implementation.
 fn refusal(refusal: strip::Refusal) -> Refusal {
     Refusal::new(refusal.number, refusal.offset as usize)
 }

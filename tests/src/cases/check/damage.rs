@@ -4,7 +4,7 @@ use super::{Case, Group};
 use crate::document;
 use crate::draft::Draft;
 use crate::mutation::damages;
-use crate::sheet::{PLAIN, STRAIGHT};
+use second::sheet::{PLAIN, STRAIGHT};
 
 /// Small sheets with one byte changed, and cut off.
 pub fn sheets() -> Group {

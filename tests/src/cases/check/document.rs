@@ -1,12 +1,12 @@
 //! The sheets of document 01.
 
 use super::{Case, Group};
-use crate::certificate;
 use crate::document::{self, FIRST_LIST};
 use crate::draft::Draft;
-use crate::drawing::{total, Sheet};
 use crate::mutation::around_layers;
-use crate::sheet::{PLAIN, STRAIGHT};
+use second::certificate;
+use second::drawing::{total, Sheet};
+use second::sheet::{PLAIN, STRAIGHT};
 
 /// The sheets on either side of each edge that have a drawing.
 pub fn sheets() -> Group {

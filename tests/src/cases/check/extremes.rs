@@ -4,7 +4,7 @@ use super::{document::zeros, lists::samples, Case, Group};
 use crate::document;
 use crate::draft::Draft;
 use crate::random::Random;
-use crate::sheet::{PLAIN, STRAIGHT, WIDTH_LIMIT};
+use second::sheet::{PLAIN, STRAIGHT, WIDTH_LIMIT};
 
 /// The least number.
 const MIN: i32 = i32::MIN;

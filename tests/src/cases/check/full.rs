@@ -2,8 +2,8 @@
 
 use super::{document::zeros, Case, Group};
 use crate::draft::{Draft, Edge};
-use crate::drawing::Sheet;
-use crate::sheet::{EDGE_LIMIT, PLAIN, STRAIGHT, WIDTH_LIMIT};
+use second::drawing::Sheet;
+use second::sheet::{EDGE_LIMIT, PLAIN, STRAIGHT, WIDTH_LIMIT};
 
 /// The counts of nodes.
 const COUNTS: [u16; 4] = [64; 4];

@@ -2,7 +2,7 @@
 
 use crate::cases::line::{digits, refused};
 use crate::cases::Line;
-use crate::checker::check;
+use second::checker::check;
 
 impl Line {
     /// Checks a pull list.

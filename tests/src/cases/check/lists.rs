@@ -8,7 +8,7 @@ use crate::mutation::{
     moved_pushes, pull_changes,
 };
 use crate::random::Random;
-use crate::sheet::{PLAIN, STRAIGHT};
+use second::sheet::{PLAIN, STRAIGHT};
 
 /// Sheets of different shape, each with its leftmost least drawing and a list that shows it.
 pub(super) fn samples() -> Vec<(&'static str, Case)> {

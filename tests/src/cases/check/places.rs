@@ -3,9 +3,9 @@
 use super::{document::zeros, lists::samples, Case, Group};
 use crate::document;
 use crate::draft::Draft;
-use crate::drawing::{drawings, least_drawings};
 use crate::mutation::{changed, place_changes};
-use crate::sheet::{PLAIN, STRAIGHT, WIDTH_LIMIT};
+use second::drawing::{drawings, least_drawings};
+use second::sheet::{PLAIN, STRAIGHT, WIDTH_LIMIT};
 
 /// Adds a sheet without long edges, with a list of zeros, once for each of the places.
 fn add(group: &mut Group, draft: &Draft, places: &[&[u16]]) {

@@ -2,7 +2,7 @@
 
 use super::{Case, Group};
 use crate::document::{self, FIRST_LIST, ONE_NODE, REFUSED};
-use crate::sheet::PLAIN;
+use second::sheet::PLAIN;
 
 /// The table of refusals.
 pub fn refusals() -> Group {

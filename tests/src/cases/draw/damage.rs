@@ -1,11 +1,11 @@
 //! Damaged sheets, drawn into slices a little longer than the good ones need.
 
 use super::Group;
-use crate::certificate;
 use crate::document;
 use crate::draft::Draft;
 use crate::mutation::damages;
-use crate::sheet::{PLAIN, STRAIGHT};
+use second::certificate;
+use second::sheet::{PLAIN, STRAIGHT};
 
 /// Small sheets cut off, and with one byte changed, doubled or appended.
 pub fn sheets() -> Group {

@@ -2,7 +2,7 @@
 
 use super::Group;
 use crate::document::{self, NO_DRAWING, ONE_NODE, REFUSED};
-use crate::solver::solve;
+use second::solver::solve;
 
 /// The sheets on either side of each edge.
 pub fn sheets() -> Group {

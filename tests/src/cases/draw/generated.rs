@@ -2,11 +2,11 @@
 
 use super::Group;
 use crate::draft::Draft;
-use crate::drawing::total;
 use crate::generate;
 use crate::planted::{planted, Plan};
 use crate::random::Random;
-use crate::solver::solve;
+use second::drawing::total;
+use second::solver::solve;
 
 /// How many tiny sheets there are, for which the tests also try every list of places.
 const TINY: usize = 150;

@@ -2,11 +2,11 @@
 
 use crate::cases::line::{digits, refused};
 use crate::cases::Line;
-use crate::certificate;
-use crate::checker::check;
-use crate::drawing::Sheet;
-use crate::engine::draw;
-use crate::sheet::{read, NUMBER_LIMIT};
+use second::certificate;
+use second::checker::check;
+use second::drawing::Sheet;
+use second::engine::draw;
+use second::sheet::{read, NUMBER_LIMIT};
 
 /// What every place holds before the call.
 const PLACE_FILL: u16 = 0xa5a5;

@@ -6,7 +6,7 @@ use crate::families::conflicts::spiral;
 use crate::generate::largest;
 use crate::planted::{planted, Plan};
 use crate::random::Random;
-use crate::sheet::{EDGE_LIMIT, LAYER_LIMIT, NODE_LIMIT, PLAIN, STRAIGHT, WIDTH_LIMIT};
+use second::sheet::{EDGE_LIMIT, LAYER_LIMIT, NODE_LIMIT, PLAIN, STRAIGHT, WIDTH_LIMIT};
 
 /// Small sheets with extreme numbers.
 pub fn extremes() -> Group {

@@ -1,10 +1,10 @@
 //! Slices of every length around the one that is needed.
 
 use super::Group;
-use crate::certificate;
 use crate::document::{self, NO_DRAWING, ONE_NODE};
 use crate::draft::Draft;
-use crate::sheet::{PLAIN, STRAIGHT};
+use second::certificate;
+use second::sheet::{PLAIN, STRAIGHT};
 
 /// Slices that are too short, long enough, and longer.
 pub fn lengths() -> Group {

@@ -2,8 +2,8 @@
 
 use super::Group;
 use crate::document;
-use crate::sheet::PLAIN;
 use crate::traps::traps;
+use second::sheet::PLAIN;
 
 /// One sheet for each trap, and the stair in other widths.
 pub fn sheets() -> Group {

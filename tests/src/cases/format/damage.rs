@@ -4,7 +4,7 @@ use super::Group;
 use crate::document;
 use crate::draft::Draft;
 use crate::mutation::{byte_changes, changed, doubled, truncated};
-use crate::sheet::{PLAIN, STRAIGHT};
+use second::sheet::{PLAIN, STRAIGHT};
 
 /// Small good sheets of different shape.
 fn samples() -> [(&'static str, Draft); 5] {

@@ -2,7 +2,7 @@
 
 use super::{Group, BRIEF};
 use crate::draft::{encode, Draft};
-use crate::sheet::{PLAIN, STRAIGHT, WIDTH_LIMIT};
+use second::sheet::{PLAIN, STRAIGHT, WIDTH_LIMIT};
 
 /// Numbers that are outside every limit; the second can stand in a number list only.
 const TOO_LARGE: [u16; 2] = [16383, 65535];

@@ -2,9 +2,9 @@
 
 use crate::cases::line::{digits, refused};
 use crate::cases::Line;
-use crate::number::{self, Placed};
-use crate::refusal::Refusal;
-use crate::sheet;
+use second::number::{self, Placed};
+use second::refusal::Refusal;
+use second::sheet;
 
 /// What every number of a slice holds before the call.
 pub const NUMBER_FILL: u16 = 0xa5a5;

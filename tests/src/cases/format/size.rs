@@ -4,7 +4,7 @@ use super::{Group, BRIEF};
 use crate::document;
 use crate::draft::Draft;
 use crate::generate;
-use crate::sheet::STRAIGHT;
+use second::sheet::STRAIGHT;
 
 /// The most bytes that the payload of a line may have.
 const PAYLOAD_BYTES: usize = 5130;

@@ -1,5 +1,4 @@
-//! The same as `solver` by cancelling cycles: a check of it on small sheets, and the maker of the
-//! pull lists in the stored cases.
+//! The same as `solver` by cancelling cycles: a check of it on small sheets.
 //!
 //! As long as there is a residual cycle of negative cost, flow is sent along it.
 

@@ -1,0 +1,18 @@
+//! A second implementation of document 01, written from it alone: what the library is compared with.
+//!
+//! It uses no other package, and knows nothing of the library or of the tests.
+
+pub mod cancelling;
+pub mod certificate;
+pub mod checker;
+pub mod drawing;
+pub mod engine;
+pub mod network;
+pub mod number;
+pub mod printed;
+pub mod refusal;
+pub mod residual;
+pub mod sheet;
+pub mod simplex;
+pub mod solver;
+pub mod tree;
