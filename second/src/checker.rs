@@ -3,15 +3,12 @@
 use crate::certificate::{floor, length, meets_rules};
 use crate::drawing::{is_drawing, total, Sheet};
 use crate::refusal::{Refusal, SLICE_TOO_SHORT};
-use crate::sheet::{read, NUMBER_LIMIT};
 
 /// Says whether the list shows that the places are a drawing of least total.
 ///
 /// Elements of `places` and `list` behind the ones that the sheet needs are not looked at.
 pub fn check(bytes: &[u8], places: &[u16], list: &[i32]) -> Result<bool, Refusal> {
-    let mut numbers = [0; NUMBER_LIMIT];
-    let count = read(bytes, &mut numbers)?;
-    let sheet = Sheet::from_numbers(&numbers[..count]);
+    let sheet = Sheet::from_bytes(bytes)?;
     if places.len() < sheet.node_count() || list.len() < length(&sheet) {
         return Err(Refusal::new(SLICE_TOO_SHORT, 0));
     }

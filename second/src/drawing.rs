@@ -2,7 +2,8 @@
 //!
 //! Nodes (document 01: marks) are numbered layer by layer, left to right, from 0.
 
-use crate::sheet::STRAIGHT;
+use crate::refusal::Refusal;
+use crate::sheet::{read, NUMBER_LIMIT, STRAIGHT};
 
 /// The separation of two neighbours in a layer.
 #[derive(Clone, Debug, PartialEq, Eq)]
@@ -39,6 +40,13 @@ pub struct Sheet {
 }
 
 impl Sheet {
+    /// Reads a sheet and takes it apart.
+    pub fn from_bytes(bytes: &[u8]) -> Result<Sheet, Refusal> {
+        let mut numbers = [0; NUMBER_LIMIT];
+        let count = read(bytes, &mut numbers)?;
+        Ok(Sheet::from_numbers(&numbers[..count]))
+    }
+
     /// Takes the number list of a good sheet apart.
     pub fn from_numbers(numbers: &[u16]) -> Sheet {
         let mut numbers = numbers.iter().copied();

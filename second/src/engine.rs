@@ -3,7 +3,6 @@
 use crate::certificate::length;
 use crate::drawing::{total, Sheet};
 use crate::refusal::{Refusal, NO_DRAWING, SLICE_TOO_SHORT, TOTAL_TOO_LARGE};
-use crate::sheet::{read, NUMBER_LIMIT};
 use crate::solver::solve;
 
 /// The greatest total that is not refused.
@@ -12,9 +11,7 @@ const TOTAL_LIMIT: u32 = 16_777_215;
 /// Writes the leftmost least drawing of a sheet and a pull list that shows its total to be least
 /// into the fronts of the slices, and gives the total.
 pub fn draw(bytes: &[u8], places: &mut [u16], list: &mut [i32]) -> Result<u32, Refusal> {
-    let mut numbers = [0; NUMBER_LIMIT];
-    let count = read(bytes, &mut numbers)?;
-    let sheet = Sheet::from_numbers(&numbers[..count]);
+    let sheet = Sheet::from_bytes(bytes)?;
     let (place_count, list_length) = (sheet.node_count(), length(&sheet));
     if places.len() < place_count || list.len() < list_length {
         return Err(Refusal::new(SLICE_TOO_SHORT, 0));

@@ -2,7 +2,7 @@
 
 use crate::drawing::Sheet;
 use crate::engine::draw;
-use crate::sheet::{read, EDGE_LIMIT, NODE_LIMIT, NUMBER_LIMIT};
+use crate::sheet::{EDGE_LIMIT, NODE_LIMIT};
 
 /// The greatest count of places in a drawing.
 const PLACES: usize = NODE_LIMIT as usize;
@@ -20,9 +20,7 @@ pub fn printed(bytes: &[u8]) -> String {
 
 /// A line for each node of a good sheet: its layer, its position there, its place.
 fn nodes(bytes: &[u8], places: &[u16]) -> String {
-    let mut numbers = [0; NUMBER_LIMIT];
-    let count = read(bytes, &mut numbers).expect("the sheet has been drawn");
-    let sheet = Sheet::from_numbers(&numbers[..count]);
+    let sheet = Sheet::from_bytes(bytes).expect("the sheet has been drawn");
     let mut text = String::new();
     for (layer, nodes) in (1..).zip(&sheet.layers) {
         for (position, place) in (1..).zip(&places[nodes.first..=nodes.last]) {

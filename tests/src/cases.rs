@@ -1,16 +1,25 @@
-//! The cases of the program `library_test`: lines of input, each with the line of output that
-//! this package computes. The stored output is the program's own; the tests compare the two.
+//! Cases by hand, in groups: calls that the second implementation answers too.
 //!
-//! A line that starts with `#` names the cases below it; the output repeats it. Any other line
-//! holds an operation letter, two numbers in four hexadecimal digits each, and a payload in
-//! hexadecimal digits, with a space between them.
+//! The stored ones are the input of the program `library_test`. The others are more than a reader
+//! would read there; the tests give them to the library.
+//!
+//! A note that ends in `: yes`, `: no` or `: refused` tells the checker's word on every case below it.
+//! Where a case draws, that is the word on the slices after the call.
 
+mod call;
 pub mod check;
 pub mod draw;
 pub mod format;
-mod line;
+mod text;
 
-pub use line::Line;
+pub use call::Call;
+
+/// A line of a group.
+pub enum Line {
+    /// Names the cases below it.
+    Note(String),
+    Case(Call),
+}
 
 /// Test cases that belong together.
 pub struct Group {
@@ -21,26 +30,43 @@ pub struct Group {
 impl Group {
     /// A group without cases; its name is its first line.
     fn new(name: &'static str) -> Group {
-        let lines = vec![Line::comment(name)];
+        let lines = vec![Line::Note(name.to_string())];
         Group { name, lines }
     }
 
     /// Names the cases that follow.
     fn note(&mut self, text: &str) {
-        self.lines.push(Line::comment(text));
+        self.lines.push(Line::Note(text.to_string()));
     }
 
-    /// How many cases the group has, not counting the lines that name them.
-    pub fn count(&self) -> usize {
-        self.lines.iter().filter(|line| !line.is_comment()).count()
+    /// Adds a case.
+    fn add(&mut self, call: Call) {
+        self.lines.push(Line::Case(call));
+    }
+
+    /// The cases, without the lines that name them.
+    pub fn calls(&self) -> impl Iterator<Item = &Call> {
+        self.lines.iter().filter_map(|line| match line {
+            Line::Case(call) => Some(call),
+            Line::Note(_) => None,
+        })
     }
 }
 
-/// All groups, in the order of the files.
-pub fn groups() -> Vec<Group> {
-    let mut groups = format::groups();
-    groups.extend(check::groups());
-    groups.extend(draw::groups());
+/// The groups that are stored, in the order of the files: document 01's sheets and refusals, and
+/// single numbers, which the library does not export.
+pub fn stored() -> Vec<Group> {
+    let mut groups = format::stored();
+    groups.extend(check::stored());
+    groups.extend(draw::stored());
+    groups
+}
+
+/// The groups that are not stored.
+pub fn others() -> Vec<Group> {
+    let mut groups = format::others();
+    groups.extend(check::others());
+    groups.extend(draw::others());
     groups
 }
 
@@ -51,5 +77,5 @@ pub fn lines(groups: &[Group]) -> impl Iterator<Item = &Line> {
 
 /// The program's input for these groups.
 pub fn input(groups: &[Group]) -> String {
-    lines(groups).flat_map(|line| [&line.input, "\n"]).collect()
+    lines(groups).map(|line| line.input() + "\n").collect()
 }

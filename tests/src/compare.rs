@@ -9,12 +9,13 @@ mod format;
 mod near;
 mod tally;
 
+use crate::cases::Call;
 use crate::random::Random;
 use second::drawing::Sheet;
 use second::refusal::Refusal;
 
 pub use checking::judge;
-pub use format::{read, write};
+pub use format::{read, read_into, write, write_into};
 pub use tally::{grouped, scale, Tally};
 
 /// The four functions of a library, as document 01 has them.
@@ -63,6 +64,26 @@ pub fn sheet(library: &impl Library, bytes: &[u8]) -> Outcome {
                 no: 0,
             }
         }
+    }
+}
+
+/// Compares what is answered to a case, and what it leaves in its slices: `true` where it is taken or
+/// gets a yes. There is nothing where the library has no such function.
+pub fn call(library: &impl Library, call: &Call) -> Option<Result<bool, Refusal>> {
+    match call {
+        Call::Read { bytes, room } => Some(read_into(library, bytes, *room).map(|_| true)),
+        Call::Write { numbers, room } => Some(write_into(library, numbers, *room).map(|_| true)),
+        Call::ReadNumber { .. } | Call::WriteNumber { .. } => None,
+        Call::Check {
+            bytes,
+            places,
+            list,
+        } => Some(judge(library, bytes, places, list)),
+        Call::Draw {
+            bytes,
+            places,
+            list,
+        } => Some(drawing::into(library, bytes, *places, *list).map(|_| true)),
     }
 }
 

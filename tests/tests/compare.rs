@@ -7,7 +7,7 @@ use second::checker;
 use second::drawing::Sheet;
 use second::engine;
 use second::refusal::{Refusal, NO_DRAWING, SLICE_TOO_SHORT};
-use second::sheet::{self as format, NUMBER_LIMIT, PLAIN};
+use second::sheet::{self as format, PLAIN};
 use strip_tests::compare::{sheet, Library};
 use strip_tests::document::{self, REFUSED};
 use strip_tests::families::turned::mirrored;
@@ -151,9 +151,7 @@ impl Library for Faulty {
 
 /// How many places and list numbers a good sheet needs.
 fn needed(bytes: &[u8]) -> (usize, usize) {
-    let mut numbers = [0; NUMBER_LIMIT];
-    let count = format::read(bytes, &mut numbers).expect("a good sheet");
-    let sheet = Sheet::from_numbers(&numbers[..count]);
+    let sheet = Sheet::from_bytes(bytes).expect("a good sheet");
     (sheet.node_count(), certificate::length(&sheet))
 }
 

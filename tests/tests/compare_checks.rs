@@ -11,8 +11,8 @@ use strip_tests::document;
 use strip_tests::draft::Draft;
 use strip_tests::generate;
 use strip_tests::mutation::{
-    around_layers, around_pairs, around_parallel_edges, changed, exchanged, moved_pushes,
-    place_changes, pull_changes, truncated,
+    around_layers, around_pairs, around_parallel_edges, byte_changes, changed, damages, exchanged,
+    moved_pushes, place_changes, pull_changes, truncated,
 };
 use strip_tests::random::Random;
 
@@ -56,6 +56,24 @@ fn every_near_miss_of_the_sheets_of_the_document() {
         }
     }
     words.check("near misses of document 01", 20, 500, 90);
+}
+
+#[test]
+fn lists_of_the_document_with_damaged_sheets() {
+    let mut words = Words::default();
+    for (_, draft) in document::sheets() {
+        let Some(mut drawn) = Drawn::new(&draft) else {
+            continue;
+        };
+        let (places, list) = (drawn.places.clone(), drawn.list.clone());
+        for (_, damaged) in damages(&draft.bytes(), byte_changes) {
+            for bytes in damaged {
+                drawn.bytes = bytes;
+                words.judge(&drawn, &places, &list);
+            }
+        }
+    }
+    words.check("lists of document 01 with damaged sheets", 20, 50, 500);
 }
 
 #[test]

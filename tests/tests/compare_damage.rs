@@ -5,7 +5,7 @@ mod library;
 use library::Proved;
 use strip_tests::compare::{self, scale, Tally};
 use strip_tests::damage::DAMAGES;
-use strip_tests::document::REFUSED;
+use strip_tests::document::{self, REFUSED};
 use strip_tests::draft::Draft;
 use strip_tests::examples::examples;
 use strip_tests::families::{realistic, sizes};
@@ -91,4 +91,19 @@ fn every_damage_of_the_examples() {
     tally.print("damaged examples, all there are");
     check_refusals(&tally, [300, 40, 100, 300, 10, 10]);
     assert!(tally.drawn > 100);
+}
+
+#[test]
+fn every_damage_of_the_sheets_of_the_document() {
+    let mut tally = Tally::default();
+    for (_, draft) in document::sheets() {
+        for (_, damaged) in damages(&draft.bytes(), byte_changes) {
+            for bytes in damaged {
+                tally.add(&compare::sheet(&Proved, &bytes));
+            }
+        }
+    }
+    tally.print("damaged sheets of document 01, all there are");
+    check_refusals(&tally, [300, 200, 100, 500, 50, 50]);
+    assert!(tally.drawn > 100 && tally.undrawn() > 50);
 }

@@ -4,10 +4,11 @@ mod library;
 
 use library::Proved;
 use second::refusal::Refusal;
-use second::sheet;
 use strip_tests::compare::{self, grouped, scale, Library};
+use strip_tests::document;
 use strip_tests::draft::encode;
 use strip_tests::generate;
+use strip_tests::mutation::{changed, truncated};
 use strip_tests::random::Random;
 
 /// Counts of answers by the number of the refusal; 0 is none.
@@ -89,6 +90,23 @@ fn number_lists_near_good_ones_are_written() {
 }
 
 #[test]
+fn every_number_list_near_those_of_the_document_is_written() {
+    let mut answers = [0; 10];
+    let changes = |n: u16| vec![0, n.wrapping_add(1), n.wrapping_sub(1), 4096, 65535];
+    for (_, draft) in document::sheets() {
+        let numbers = draft.numbers();
+        let mut lists = truncated(&numbers);
+        lists.extend(changed(&numbers, changes));
+        lists.push([&numbers[..], &[1]].concat());
+        for list in lists {
+            count(&mut answers, &compare::write(&Proved, &list));
+        }
+    }
+    let least = [(0, 100), (1, 100), (4, 500), (5, 5), (6, 12)];
+    check_answers("number lists near document 01's", &answers, &least);
+}
+
+#[test]
 fn bytes_near_good_ones_are_read() {
     let mut random = Random::new(173);
     let mut answers = [0; 10];
@@ -124,18 +142,12 @@ fn slices_of_every_length() {
         let draft = generate::small(&mut random);
         let (numbers, bytes) = (draft.numbers(), draft.bytes());
         for length in 0..=numbers.len() + 2 {
-            let (mut ours, mut theirs) = (vec![77; length], vec![77; length]);
-            let expected = sheet::read(&bytes, &mut ours);
-            assert_eq!(Proved.read(&bytes, &mut theirs), expected);
-            assert_eq!(theirs, ours);
-            count(&mut answers, &expected);
+            let read = compare::read_into(&Proved, &bytes, length);
+            count(&mut answers, &read);
         }
         for length in 0..=bytes.len() + 2 {
-            let (mut ours, mut theirs) = (vec![77; length], vec![77; length]);
-            let expected = sheet::write(&numbers, &mut ours);
-            assert_eq!(Proved.write(&numbers, &mut theirs), expected);
-            assert_eq!(theirs, ours);
-            count(&mut answers, &expected);
+            let written = compare::write_into(&Proved, &numbers, length);
+            count(&mut answers, &written);
         }
     }
     check_answers("slices", &answers, &[(0, 1_800), (7, 20_000)]);

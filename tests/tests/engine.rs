@@ -1,12 +1,11 @@
-//! The engine: document 01's answers, refusals, and the stored cases against brute force.
+//! The engine: document 01's answers and refusals, and sheets that have a drawing.
 
 use second::certificate;
 use second::checker::check;
-use second::drawing::{least_drawings, leftmost, Sheet};
+use second::drawing::Sheet;
 use second::engine;
 use second::refusal::Refusal;
-use second::sheet::{read, NUMBER_LIMIT, STRAIGHT};
-use strip_tests::cases::draw;
+use second::sheet::STRAIGHT;
 use strip_tests::document::{self, NO_DRAWING, ONE_NODE, REFUSED};
 use strip_tests::draft::Draft;
 use strip_tests::planted::{planted, Plan};
@@ -24,7 +23,7 @@ fn draw(bytes: &[u8], places: usize, list: usize) -> Answer {
     let mut list = vec![BEFORE.1; list];
     match engine::draw(bytes, &mut places, &mut list) {
         Ok(total) => {
-            let sheet = sheet_of(bytes);
+            let sheet = Sheet::from_bytes(bytes).expect("a good sheet");
             assert_eq!(check(bytes, &places, &list), Ok(true));
             let kept = list.split_off(certificate::length(&sheet));
             assert!(kept.iter().all(|&n| n == BEFORE.1));
@@ -38,13 +37,6 @@ fn draw(bytes: &[u8], places: usize, list: usize) -> Answer {
             Err((number, offset))
         }
     }
-}
-
-/// The sheet of good bytes.
-fn sheet_of(bytes: &[u8]) -> Sheet {
-    let mut numbers = [0; NUMBER_LIMIT];
-    let count = read(bytes, &mut numbers).expect("a good sheet");
-    Sheet::from_numbers(&numbers[..count])
 }
 
 /// Draws a sheet into slices of just the lengths it needs.
@@ -94,30 +86,6 @@ fn refusals_of_the_document() {
     assert_eq!(draw(&NO_DRAWING, 2, 4), Err((8, 0)));
     assert_eq!(draw(&NO_DRAWING, 1, 4), Err((7, 0)));
     assert_eq!(draw(&NO_DRAWING, 2, 3), Err((7, 0)));
-}
-
-#[test]
-fn stored_answers_of_tiny_sheets_are_those_of_brute_force() {
-    let groups = draw::groups();
-    let mut named = groups
-        .iter()
-        .filter(|group| group.name == "drawing random tiny sheets");
-    let group = named.next().expect("the group is there");
-    let cases = group.lines.iter().filter(|line| !line.is_comment());
-    for line in cases {
-        let payload = line.input.split(' ').next_back().expect("a payload");
-        let byte = |i: usize| u8::from_str_radix(&payload[i..i + 2], 16).expect("two digits");
-        let bytes: Vec<u8> = (0..payload.len()).step_by(2).map(byte).collect();
-        let expected = match least_drawings(&sheet_of(&bytes)) {
-            Some((total, drawings)) => {
-                let places = leftmost(&drawings);
-                let digits = places.iter().map(|place| format!(" {place:04x}"));
-                format!("total {total}:{}", digits.collect::<String>())
-            }
-            None => "refused 8 at 0:".to_string(),
-        };
-        assert!(line.output.starts_with(&expected), "{}", line.output);
-    }
 }
 
 #[test]

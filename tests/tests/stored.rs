@@ -1,37 +1,17 @@
-//! The stored input of `library_test` is the cases of this package, and the stored output, which the
-//! program prints, is what this package computes.
+//! The stored input of `library_test` is the stored cases, and the stored output, which the program
+//! prints, is what the second implementation computes.
 
 use std::fs;
 use std::path::Path;
-use std::sync::OnceLock;
 
-use strip_tests::cases::{check, draw, format, groups, input, lines, Group};
+use strip_tests::cases::{draw, input, lines, stored, Line};
 
 /// The commands that write the stored files anew, from the root of the repository.
 const REWRITE: &str = "cargo run --release --bin cases > crates/library_test/stdin; \
     target/bin/library_test < crates/library_test/stdin > crates/library_test/stdout";
 
-/// All groups, computed once.
-fn all_groups() -> &'static [Group] {
-    static GROUPS: OnceLock<Vec<Group>> = OnceLock::new();
-    GROUPS.get_or_init(groups)
-}
-
-/// The groups of the engine, computed once.
-fn draw_groups() -> &'static [Group] {
-    static GROUPS: OnceLock<Vec<Group>> = OnceLock::new();
-    GROUPS.get_or_init(draw::groups)
-}
-
-/// The output that this package computes for these groups.
-fn output(groups: &[Group]) -> String {
-    lines(groups)
-        .flat_map(|line| [&line.output, "\n"])
-        .collect()
-}
-
 /// A stored file of the program.
-fn stored(name: &str) -> String {
+fn file(name: &str) -> String {
     let folder = Path::new(env!("CARGO_MANIFEST_DIR")).join("../crates/library_test");
     let path = folder.join(name);
     match fs::read_to_string(&path) {
@@ -42,7 +22,7 @@ fn stored(name: &str) -> String {
 
 #[test]
 fn stored_input_is_up_to_date() {
-    let (stored, computed) = (stored("stdin"), input(all_groups()));
+    let (stored, computed) = (file("stdin"), input(&stored()));
     let mut both = stored.lines().zip(computed.lines());
     let differing = both.position(|(stored, computed)| stored != computed);
     assert_eq!(differing, None, "write it with: {REWRITE}");
@@ -50,16 +30,16 @@ fn stored_input_is_up_to_date() {
 }
 
 #[test]
-fn stored_output_is_what_this_package_computes() {
-    let stored = stored("stdout");
-    let count = lines(all_groups()).count();
-    assert_eq!(stored.lines().count(), count, "write it with: {REWRITE}");
-    for (i, (line, output)) in lines(all_groups()).zip(stored.lines()).enumerate() {
+fn stored_output_is_what_the_second_implementation_computes() {
+    let (output, groups) = (file("stdout"), stored());
+    let count = lines(&groups).count();
+    assert_eq!(output.lines().count(), count, "write it with: {REWRITE}");
+    for (i, (line, output)) in lines(&groups).zip(output.lines()).enumerate() {
         assert!(
             line.is_answered_by(output),
             "stdout differs at line {}\nstored: {output}\ncomputed: {}\nwrite it with: {REWRITE}",
             i + 1,
-            line.output,
+            line.output(),
         );
     }
 }
@@ -67,12 +47,12 @@ fn stored_output_is_what_this_package_computes() {
 #[test]
 fn other_totals_places_lists_and_words_are_no_answers() {
     let mut tried = 0;
-    for line in lines(draw_groups()) {
-        let output = &line.output;
+    for line in lines(&draw::stored()) {
+        let output = line.output();
+        assert!(line.is_answered_by(&output));
         let Some((answer, list)) = output.split_once(';') else {
             continue;
         };
-        assert!(line.is_answered_by(output));
         if !output.starts_with("total ") {
             continue;
         }
@@ -91,169 +71,62 @@ fn other_totals_places_lists_and_words_are_no_answers() {
         }
         tried += 1;
     }
-    assert!(tried >= 350, "{tried}");
+    assert!(tried >= 25, "{tried}");
 }
 
 #[test]
-fn no_group_is_empty() {
-    assert_eq!((format::groups().len(), check::groups().len()), (14, 16));
-    assert_eq!(draw_groups().len(), 13);
-    for group in all_groups() {
-        assert!(group.count() > 0, "{}", group.name);
+fn stored_files_can_be_read() {
+    for file in [file("stdin"), file("stdout")] {
+        assert!(file.is_ascii());
+        assert!(file.lines().count() < 400, "{}", file.lines().count());
+        assert!(file.lines().all(|line| line.len() < 320));
     }
 }
 
-/// How many cases the group of that name has.
-fn count(groups: &[Group], name: &str) -> usize {
-    let named = groups.iter().filter(|group| group.name == name);
-    named.map(|group| group.count()).sum::<usize>()
-}
-
-#[test]
-fn there_are_many_damaged_cases() {
-    let groups = format::groups();
-    assert!(count(&groups, "damaged sheets") >= 300);
-    assert!(count(&groups, "damaged number lists") >= 200);
-    let groups = check::groups();
-    assert!(count(&groups, "damaged sheets") >= 150);
-    assert!(count(&groups, "lists with one thing changed") >= 150);
-}
-
-#[test]
-fn cases_are_small_enough() {
-    let (input, output) = (input(all_groups()), stored("stdout"));
-    assert!(input.len() < 800_000 && output.len() < 800_000);
-    assert!(input.lines().all(|line| line.len() < 32_768));
-    assert!(input.is_ascii() && output.is_ascii());
-    assert_eq!(input.lines().count(), output.lines().count());
-}
-
-/// The parts of each line of input that is a case.
-fn parts(input: &str) -> Vec<[String; 4]> {
-    let cases = input.lines().filter(|line| !line.starts_with('#'));
-    let parts = |line: &str| {
-        let parts: Vec<String> = line.split(' ').map(str::to_owned).collect();
-        let parts: [String; 4] = parts.try_into().expect("a line has four parts");
-        assert!(parts[0].len() == 1 && parts[1].len() == 4 && parts[2].len() == 4);
-        parts
+/// The parts of a line of input that is a case.
+fn parts(line: &Line) -> Option<[String; 4]> {
+    let Line::Case(_) = line else {
+        return None;
     };
-    cases.map(parts).collect()
-}
-
-/// The value of hexadecimal digits.
-fn hexadecimal(digits: &str) -> usize {
-    usize::from_str_radix(digits, 16).expect("a number")
+    let parts: Vec<String> = line.input().split(' ').map(str::to_owned).collect();
+    let parts: [String; 4] = parts.try_into().expect("a line has four parts");
+    assert!(parts[0].len() == 1 && parts[1].len() == 4 && parts[2].len() == 4);
+    Some(parts)
 }
 
 #[test]
-fn lines_of_the_format_keep_the_columns() {
-    let input = input(&format::groups());
-    for [operation, room, _, payload] in parts(&input) {
-        let (greatest_room, digits, greatest_count) = match &operation[..] {
-            "R" => (2560, 2, 5130),
-            "W" => (5122, 4, 2570),
-            "G" => (0, 2, 5130),
-            "P" => (5122, 8, 1),
+fn payloads_are_whole_elements() {
+    let hexadecimal = |digits: &str| usize::from_str_radix(digits, 16).expect("a number");
+    let groups = stored();
+    for [operation, first, second, payload] in lines(&groups).filter_map(parts) {
+        let (before, digits) = match &operation[..] {
+            "R" | "G" | "D" => (0, 2),
+            "W" => (0, 4),
+            "P" => (0, 8),
+            "C" => (4 * hexadecimal(&first) + 8 * hexadecimal(&second), 2),
             _ => panic!("no such operation: {operation}"),
         };
-        assert!(hexadecimal(&room) <= greatest_room, "{payload}");
-        assert_eq!(payload.len() % digits, 0, "{payload}");
-        assert!(payload.len() / digits <= greatest_count, "{payload}");
+        assert!(payload.len() >= before, "{payload}");
+        assert_eq!((payload.len() - before) % digits, 0, "{payload}");
     }
 }
 
 #[test]
-fn lines_of_the_checker_keep_the_columns() {
-    let input = input(&check::groups());
-    for [operation, places, numbers, payload] in parts(&input) {
-        assert_eq!(operation, "C");
-        let (places, numbers) = (hexadecimal(&places), hexadecimal(&numbers));
-        assert!(places <= 300 && numbers <= 1100, "{payload}");
-        let digits = payload.len() - 4 * places - 8 * numbers;
-        assert!(digits % 2 == 0 && digits / 2 <= 5130, "{payload}");
-    }
-}
-
-#[test]
-fn lines_of_the_engine_keep_the_columns() {
-    let input = input(draw_groups());
-    for [operation, places, numbers, payload] in parts(&input) {
-        assert_eq!(operation, "D");
-        let (places, numbers) = (hexadecimal(&places), hexadecimal(&numbers));
-        assert!(places <= 300 && numbers <= 1100, "{payload}");
-        let digits = payload.len();
-        assert!(digits % 2 == 0 && digits / 2 <= 5130, "{payload}");
-    }
-}
-
-#[test]
-fn engine_has_many_cases_of_each_answer() {
-    let output = output(draw_groups());
+fn each_refusal_and_each_word_is_stored() {
+    let output = file("stdout");
     let count = |answer: &str| {
-        let answers = output.lines().filter(|line| !line.starts_with('#'));
-        answers.filter(|line| line.starts_with(answer)).count()
+        output
+            .lines()
+            .filter(|line| line.starts_with(answer))
+            .count()
     };
-    assert!(count("") >= 600);
-    assert!(count("total ") >= 350);
-    assert!(count("total ") - count("total 0:") >= 250);
-    for (number, least) in [
-        (1, 5),
-        (2, 2),
-        (3, 4),
-        (4, 4),
-        (5, 3),
-        (6, 6),
-        (7, 70),
-        (8, 150),
-    ] {
-        let answer = format!("refused {number} at ");
-        assert!(count(&answer) >= least, "{answer}");
+    for number in 1..=8 {
+        assert!(count(&format!("refused {number} at ")) > 0, "{number}");
     }
     assert_eq!(count("refused 9"), 0);
-}
-
-#[test]
-fn checker_has_many_cases_of_each_answer() {
-    let output = output(&check::groups());
-    let count = |answer: &str| {
-        let answers = output.lines().filter(|line| !line.starts_with('#'));
-        answers.filter(|line| line.starts_with(answer)).count()
-    };
-    assert!(count("") >= 1000);
-    assert!(count("yes") >= 200);
-    assert!(count("no") >= 500);
-    for (number, least) in [(1, 40), (2, 20), (3, 15), (4, 50), (5, 8), (6, 8), (7, 20)] {
-        let answer = format!("refused {number} at ");
-        assert!(count(&answer) >= least, "{answer}");
+    for answer in [
+        "value ", "next ", "no form:", "no room:", "done ", "total ", "yes", "no",
+    ] {
+        assert!(count(answer) > 0, "{answer}");
     }
-    assert_eq!(count("refused 8"), 0);
-}
-
-/// Checks that each note that ends in a word of the checker tells the word of the lines below it.
-fn check_notes(groups: &[Group], word: fn(&str) -> Option<&str>) -> usize {
-    let output = output(groups);
-    let mut told = 0;
-    let mut note = "";
-    for line in output.lines() {
-        if line.starts_with('#') {
-            note = line;
-            continue;
-        }
-        match note.rsplit(": ").next() {
-            answer @ Some("yes" | "no" | "refused") => assert_eq!(word(line), answer, "{note}"),
-            _ => continue,
-        }
-        told += 1;
-    }
-    told
-}
-
-#[test]
-fn notes_tell_the_answers() {
-    let told = check_notes(&check::groups(), |line| line.split(' ').next());
-    assert!(told >= 600, "{told}");
-    let told = check_notes(draw_groups(), |line| {
-        line.rsplit("; ").next()?.split(' ').next()
-    });
-    assert!(told >= 250, "{told}");
 }

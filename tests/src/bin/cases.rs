@@ -1,13 +1,13 @@
-//! Prints the test cases, the input of the program `library_test`.
+//! Prints the stored cases, the input of the program `library_test`.
 
 use std::io::{self, Write};
 use std::process::ExitCode;
 
 use strip_tests::cases;
 
-/// Prints all cases.
+/// Prints all stored cases.
 fn main() -> ExitCode {
-    let input = cases::input(&cases::groups());
+    let input = cases::input(&cases::stored());
     match io::stdout().write_all(input.as_bytes()) {
         Ok(()) => ExitCode::SUCCESS,
         Err(error) => {

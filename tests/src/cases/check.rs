@@ -1,22 +1,13 @@
 //! The cases of the checker of pull lists.
-//!
-//! The letter is `C`, and the two numbers of a line are the count of places and the count of list
-//! numbers. The payload is made of all places in four digits each, all numbers of the list in
-//! eight digits each, and the bytes of the sheet. The answer is `yes`, `no` or a refusal.
-//!
-//! A note that ends in `: yes`, `: no` or `: refused` tells the answer of every case below it.
 
-mod damage;
 mod document;
 mod extremes;
 mod full;
-mod line;
-mod lists;
 mod places;
-mod random;
+mod rules;
 mod slices;
 
-use super::{Group, Line};
+use super::{Call, Group};
 use crate::draft::Draft;
 use second::cancelling::solve;
 use second::certificate;
@@ -67,7 +58,11 @@ impl Group {
 
     /// Adds a case whose sheet, good or bad, is given in bytes.
     fn check_bytes(&mut self, bytes: &[u8], places: &[u16], list: &[i32]) {
-        self.lines.push(Line::check(bytes, places, list));
+        self.add(Call::Check {
+            bytes: bytes.to_vec(),
+            places: places.to_vec(),
+            list: list.to_vec(),
+        });
     }
 
     /// Adds a case in which the floor equals the total, so that the answer hangs on the rest.
@@ -91,24 +86,25 @@ impl Group {
     }
 }
 
-/// The groups, in the order of the files.
-pub fn groups() -> Vec<Group> {
+/// The groups that are stored, in the order of the files.
+pub fn stored() -> Vec<Group> {
     vec![
         document::sheets(),
         document::without_drawing(),
         slices::refusals(),
+    ]
+}
+
+/// The groups that are not stored.
+pub fn others() -> Vec<Group> {
+    vec![
         slices::lengths(),
-        lists::near_misses(),
-        lists::circulations(),
-        lists::rules(),
-        extremes::alone(),
+        rules::lists(),
+        extremes::neighbours(),
         extremes::pulls(),
         extremes::pushes(),
         places::limits(),
-        places::moved(),
         places::others(),
-        damage::sheets(),
         full::sheets(),
-        random::sheets(),
     ]
 }

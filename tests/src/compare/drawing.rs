@@ -44,6 +44,26 @@ impl Slices {
     }
 }
 
+/// Compares drawing into slices of these lengths, and gives the total.
+pub fn into(
+    library: &impl Library,
+    bytes: &[u8],
+    places: usize,
+    list: usize,
+) -> Result<u32, Refusal> {
+    let mut ours = Slices::new(places, list);
+    let expected = engine::draw(bytes, &mut ours.places, &mut ours.list);
+    let (answer, theirs) = drawn(library, bytes, places, list);
+    let told = || format!("drawing {bytes:02x?} into {places}, {list}");
+    assert_eq!(answer, expected, "{}", told());
+    assert_eq!(theirs.places, ours.places, "{}", told());
+    if let Ok(sheet) = Sheet::from_bytes(bytes) {
+        let mut behind = theirs.list.iter().skip(certificate::length(&sheet));
+        assert!(behind.all(|&number| number == LIST_FILL), "{}", told());
+    }
+    expected
+}
+
 /// Compares drawing bytes that are not a sheet, into slices of two lengths.
 pub fn bad(library: &impl Library, bytes: &[u8]) {
     refused(library, bytes, 257, 1025);
@@ -123,12 +143,6 @@ fn drawn(
 
 /// Compares drawing where there must be a refusal, and gives it.
 fn refused(library: &impl Library, bytes: &[u8], places: usize, list: usize) -> Refusal {
-    let mut ours = Slices::new(places, list);
-    let expected = engine::draw(bytes, &mut ours.places, &mut ours.list);
-    let (answer, _) = drawn(library, bytes, places, list);
-    assert_eq!(
-        answer, expected,
-        "drawing {bytes:02x?} into {places}, {list}"
-    );
-    expected.expect_err("bytes or lengths are to be refused")
+    let answer = into(library, bytes, places, list);
+    answer.expect_err("bytes or lengths are to be refused")
 }

@@ -2,9 +2,10 @@
 
 use std::fmt::Debug;
 
-use super::Library;
 use second::refusal::Refusal;
 use second::sheet::{self, NUMBER_LIMIT};
+
+use super::Library;
 
 /// What every number holds before a call.
 const NUMBER_FILL: u16 = 0xa5a5;
@@ -15,55 +16,67 @@ const BYTES: usize = 5123;
 
 /// Compares reading into slices of several lengths, and gives the numbers.
 pub fn read(library: &impl Library, bytes: &[u8]) -> Result<Vec<u16>, Refusal> {
-    let second = |numbers: &mut [u16]| sheet::read(bytes, numbers);
-    let first = |numbers: &mut [u16]| library.read(bytes, numbers);
-    let told = || format!("reading {bytes:02x?}");
-    same(NUMBER_LIMIT + 2, NUMBER_FILL, first, second, told)
+    several(NUMBER_LIMIT + 2, |room| read_into(library, bytes, room))
 }
 
 /// Compares writing into slices of several lengths, and gives the bytes.
 pub fn write(library: &impl Library, numbers: &[u16]) -> Result<Vec<u8>, Refusal> {
-    let second = |bytes: &mut [u8]| sheet::write(numbers, bytes);
-    let first = |bytes: &mut [u8]| library.write(numbers, bytes);
-    let told = || format!("writing {numbers:?}");
-    same(BYTES, BYTE_FILL, first, second, told)
+    several(BYTES, |room| write_into(library, numbers, room))
 }
 
-/// Compares two ways to fill the front of a slice, and gives the elements.
-///
-/// The slices are of a length that is always enough, and where that succeeds of the exact length,
-/// one more, one less and none.
-fn same<T: Copy + PartialEq + Debug>(
-    enough: usize,
-    fill: T,
-    first: impl Fn(&mut [T]) -> Result<usize, Refusal>,
-    second: impl Fn(&mut [T]) -> Result<usize, Refusal>,
+/// Compares reading into slices of this length, and gives the numbers.
+pub fn read_into(library: &impl Library, bytes: &[u8], room: usize) -> Result<Vec<u16>, Refusal> {
+    let (mut ours, mut theirs) = (vec![NUMBER_FILL; room], vec![NUMBER_FILL; room]);
+    let expected = sheet::read(bytes, &mut ours);
+    let found = library.read(bytes, &mut theirs);
+    let told = || format!("reading {bytes:02x?}, length {room}");
+    same((found, theirs), (expected, ours), told)
+}
+
+/// Compares writing into slices of this length, and gives the bytes.
+pub fn write_into(
+    library: &impl Library,
+    numbers: &[u16],
+    room: usize,
+) -> Result<Vec<u8>, Refusal> {
+    let (mut ours, mut theirs) = (vec![BYTE_FILL; room], vec![BYTE_FILL; room]);
+    let expected = sheet::write(numbers, &mut ours);
+    let found = library.write(numbers, &mut theirs);
+    let told = || format!("writing {numbers:?}, length {room}");
+    same((found, theirs), (expected, ours), told)
+}
+
+/// A count or a refusal, and the slice after the call.
+type Filled<T> = (Result<usize, Refusal>, Vec<T>);
+
+/// Compares two answers with their slices, and gives the elements written.
+fn same<T: PartialEq>(
+    (found, theirs): Filled<T>,
+    (expected, mut ours): Filled<T>,
     told: impl Fn() -> String,
 ) -> Result<Vec<T>, Refusal> {
-    let both = |length: usize| {
-        let (mut ours, mut theirs) = (vec![fill; length], vec![fill; length]);
-        let expected = second(&mut ours);
-        let found = first(&mut theirs);
-        assert_eq!(found, expected, "{}, length {length}", told());
-        let differing = || (0..length).find(|&i| theirs[i] != ours[i]);
-        assert!(theirs == ours, "{}, at {:?}", told(), differing());
-        expected.map(|count| {
-            ours.truncate(count);
-            ours
-        })
-    };
-    let answer = both(enough);
+    assert_eq!(found, expected, "{}", told());
+    let differing = || (0..ours.len()).find(|&i| theirs[i] != ours[i]);
+    assert!(theirs == ours, "{}, at {:?}", told(), differing());
+    ours.truncate(expected?);
+    Ok(ours)
+}
+
+/// Compares with slices of a length that is always enough, and where that succeeds of the exact
+/// length, one more, one less and none.
+fn several<T: PartialEq + Debug>(
+    enough: usize,
+    into: impl Fn(usize) -> Result<Vec<T>, Refusal>,
+) -> Result<Vec<T>, Refusal> {
+    let answer = into(enough);
     match &answer {
         Ok(elements) => {
             let exact = elements.len();
             for length in [exact, exact + 1, exact - 1, 0] {
-                let is_enough = length >= exact;
-                assert_eq!(both(length).is_ok(), is_enough, "{}", told());
+                assert_eq!(into(length).is_ok(), length >= exact, "{elements:?}");
             }
         }
-        Err(refusal) => {
-            assert_eq!(both(0), Err(*refusal), "{}", told());
-        }
+        Err(refusal) => assert_eq!(into(0), Err(*refusal)),
     }
     answer
 }

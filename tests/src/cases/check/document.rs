@@ -10,7 +10,8 @@ use second::sheet::{PLAIN, STRAIGHT};
 
 /// The sheets on either side of each edge that have a drawing.
 pub fn sheets() -> Group {
-    let mut group = Group::new("the sheets on either side of each edge");
+    let mut group = Group::new("checking the sheets on either side of each edge");
+    group.note("C PLACES LIST: so many places, so many list numbers, and the bytes of their sheet");
     for (name, draft) in document::sheets() {
         let Some(case) = Case::solved(&draft) else {
             continue;
@@ -35,7 +36,7 @@ pub fn sheets() -> Group {
 
 /// The sheets that have no drawing, with floors that equal the totals.
 pub fn without_drawing() -> Group {
-    let mut group = Group::new("sheets without a drawing");
+    let mut group = Group::new("checking the sheets without a drawing");
     for (name, draft) in document::sheets() {
         if Case::solved(&draft).is_none() {
             group.note(&format!("{name}, lists of zeros: no"));

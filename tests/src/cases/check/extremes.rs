@@ -1,9 +1,8 @@
 //! Pull lists with numbers at the ends of 32 bits.
 
-use super::{document::zeros, lists::samples, Case, Group};
+use super::{document::zeros, Case, Group};
 use crate::document;
 use crate::draft::Draft;
-use crate::random::Random;
 use second::sheet::{PLAIN, STRAIGHT, WIDTH_LIMIT};
 
 /// The least number.
@@ -11,42 +10,21 @@ const MIN: i32 = i32::MIN;
 /// The greatest number.
 const MAX: i32 = i32::MAX;
 
-/// One such number, or two, at each index.
-pub fn alone() -> Group {
-    let mut group = Group::new("numbers at the ends of 32 bits");
-    for (name, case) in samples() {
-        // These two have no kind of number that the others lack; the file stays small.
-        if ["stair", "one over three"].contains(&name) {
-            continue;
-        }
-        group.note(&format!("{name}, one number at either end: no"));
-        for i in 0..case.list.len() {
-            for end in [MAX, MIN] {
+/// Two such numbers behind each other, at each index.
+pub fn neighbours() -> Group {
+    let mut group = Group::new("two numbers at the ends of 32 bits");
+    let drawn = document::sheets().into_iter();
+    let drawn = drawn.filter_map(|(name, draft)| Some((name, Case::solved(&draft)?)));
+    // the two boundaries of a single node push against each other
+    for (name, case) in drawn.filter(|(_, case)| case.places.len() > 1) {
+        group.note(&format!("{name}: no"));
+        for i in 1..case.list.len() {
+            for pair in [[MAX, MIN], [MIN, MAX], [MIN, MIN], [MAX, MAX]] {
                 let mut case = case.clone();
-                case.list[i] = end;
+                case.list[i - 1..=i].copy_from_slice(&pair);
                 group.check(&case);
             }
         }
-    }
-    let case = Case::drawn(&document::first());
-    group.note("first sheet, two neighbours at the ends: no");
-    for i in 1..case.list.len() {
-        for pair in [[MAX, MIN], [MIN, MAX], [MIN, MIN], [MAX, MAX]] {
-            let mut case = case.clone();
-            case.list[i - 1..=i].copy_from_slice(&pair);
-            group.check(&case);
-        }
-    }
-    let mut random = Random::new(21);
-    for (name, case) in samples() {
-        group.note(&format!("{name}, all numbers random or at the ends: no"));
-        let any = case.list.iter().map(|_| random.signed()).collect();
-        let ends = case.list.iter().map(|_| match random.within(0..=1) {
-            0 => MIN,
-            _ => MAX,
-        });
-        let ends = ends.collect();
-        group.check_lists(&case, vec![any, ends, vec![MAX; case.list.len()]]);
     }
     group
 }

@@ -1,9 +1,8 @@
 //! Places on either side of what a drawing allows.
 
-use super::{document::zeros, lists::samples, Case, Group};
+use super::{document::zeros, Case, Group};
 use crate::document;
 use crate::draft::Draft;
-use crate::mutation::{changed, place_changes};
 use second::drawing::{drawings, least_drawings};
 use second::sheet::{PLAIN, STRAIGHT, WIDTH_LIMIT};
 
@@ -105,16 +104,6 @@ fn straight_edges(group: &mut Group) {
         group.check(&Case::new(&edge, &[0, 1], &list));
         group.check(&Case::new(&edge, &[1, 0], &list));
     }
-}
-
-/// Each place one step to either side.
-pub fn moved() -> Group {
-    let mut group = Group::new("one place moved by one step");
-    for (name, case) in samples() {
-        group.note(name);
-        group.check_places(&case, changed(&case.places, place_changes));
-    }
-    group
 }
 
 /// Other drawings of the same sheet, with the list of the leftmost least one.

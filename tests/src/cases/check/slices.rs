@@ -6,7 +6,7 @@ use second::sheet::PLAIN;
 
 /// The table of refusals.
 pub fn refusals() -> Group {
-    let mut group = Group::new("the table of refusals");
+    let mut group = Group::new("checking the table of refusals");
     for (name, bytes) in REFUSED {
         group.note(&format!(
             "{name}, with and without places and list: refused"
@@ -29,7 +29,7 @@ pub fn refusals() -> Group {
 
 /// Slices that are too short, long enough, and longer.
 pub fn lengths() -> Group {
-    let mut group = Group::new("slices of every length");
+    let mut group = Group::new("checking with slices of every length");
     let bytes = document::first().bytes();
     let places = [0, 1, 0];
     group.note("first sheet, exactly three places and eight numbers: yes");

@@ -7,6 +7,8 @@ use second::solver::solve;
 /// The sheets on either side of each edge.
 pub fn sheets() -> Group {
     let mut group = Group::new("drawing the sheets on either side of each edge");
+    group.note("D PLACES LIST BYTES draws a sheet into so many places, each a5a5 before,");
+    group.note("and so many list numbers, each -1515870811 before; the checker has the last word");
     for (name, draft) in document::sheets() {
         let word = match solve(&draft.sheet()) {
             Some(_) => "yes",
@@ -37,7 +39,7 @@ pub fn widths() -> Group {
 
 /// The table of refusals.
 pub fn refusals() -> Group {
-    let mut group = Group::new("the table of refusals, drawing");
+    let mut group = Group::new("drawing the table of refusals");
     for (name, bytes) in REFUSED {
         group.note(&format!("{name}: refused"));
         group.draw(bytes, 3, 8);

@@ -7,7 +7,7 @@ use second::sheet::PLAIN;
 
 /// One sheet for each trap, and the stair in other widths.
 pub fn sheets() -> Group {
-    let mut group = Group::new("traps on the drawing board");
+    let mut group = Group::new("drawing the traps on the drawing board");
     for trap in traps() {
         group.note(&format!("{}: yes", trap.name));
         group.draw_exactly(&trap.draft);

@@ -1,6 +1,6 @@
 //! Sheets at each limit and one past it.
 
-use super::{Group, BRIEF};
+use super::Group;
 use crate::draft::{encode, Draft};
 use second::sheet::{PLAIN, STRAIGHT, WIDTH_LIMIT};
 
@@ -43,14 +43,14 @@ fn all_nodes(group: &mut Group) {
         &[64, 64, 64, 1, 64, 1, 1],
         &[5; 64],
     ] {
-        group.both_briefly(&Draft::new(63, counts).numbers());
+        group.both(&Draft::new(63, counts).numbers(), 2);
     }
     group.note("a fifth layer behind 256 nodes: one node, none, no count at all");
     let numbers = Draft::new(63, &[64, 64, 64, 64, 1]).numbers();
     let (behind, _) = numbers.split_at(numbers.len() - 2);
-    group.both_briefly(&numbers);
-    group.both_briefly(&[behind, &[0, 0]].concat());
-    group.both_briefly(behind);
+    group.both(&numbers, 2);
+    group.both(&[behind, &[0, 0]].concat(), 2);
+    group.both(behind, 2);
 }
 
 /// Limits of the separations.
@@ -81,8 +81,8 @@ pub fn edges() -> Group {
     group.both(&parallel(512).numbers(), 2);
     group.note("513 edges, and their count alone");
     let numbers = parallel(513).numbers();
-    group.read(&encode(&numbers), BRIEF);
-    group.both_briefly(&numbers[..5]);
+    group.both(&numbers, 2);
+    group.both(&numbers[..5], 2);
     group.note("no layer below: the count of edges is good, the layer of an edge is not");
     group.both(&Draft::new(3, &[1]).edge(1, 1, 1, PLAIN).numbers(), 2);
     group.both(&Draft::new(3, &[2]).edge(0, 1, 1, PLAIN).numbers(), 2);

@@ -5,6 +5,8 @@ use super::Group;
 /// The unsigned LEB128 examples of DWARF 5.
 pub fn published() -> Group {
     let mut group = Group::new("published unsigned LEB128 examples of DWARF 5, read and written");
+    group.note("G 0 AT BYTES reads the number at a position");
+    group.note("P ROOM AT NUMBER writes it into a slice of so many bytes, each a5 before");
     let examples: [(u32, &[u8]); 5] = [
         (2, &[0x02]),
         (127, &[0x7f]),

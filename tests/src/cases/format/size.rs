@@ -1,15 +1,10 @@
 //! Slices of every length around the one that is needed.
 
-use super::{Group, BRIEF};
+use super::Group;
 use crate::document;
 use crate::draft::Draft;
 use crate::generate;
 use second::sheet::STRAIGHT;
-
-/// The most bytes that the payload of a line may have.
-const PAYLOAD_BYTES: usize = 5130;
-/// The most numbers that the payload of a line may have.
-const PAYLOAD_NUMBERS: usize = 2570;
 
 /// The largest sheet.
 pub fn largest() -> Group {
@@ -23,20 +18,20 @@ pub fn largest() -> Group {
     }
     group.note("one byte cut off");
     group.read(&bytes[..length - 1], count);
-    group.note("one byte appended, and as many as a line may have");
+    group.note("one byte appended, and many");
     let mut appended = bytes;
     appended.push(0x00);
-    group.read(&appended, BRIEF);
-    appended.resize(PAYLOAD_BYTES, 0x80);
-    group.read(&appended, BRIEF);
+    group.read(&appended, count);
+    appended.resize(6000, 0x80);
+    group.read(&appended, count);
     group.note("written with exactly enough room, one byte short");
     group.write(&numbers, length);
     group.write(&numbers, length - 1);
-    group.note("one number cut off, and as many appended as a line may have");
-    group.write(&numbers[..count - 1], BRIEF);
+    group.note("one number cut off, and many appended");
+    group.write(&numbers[..count - 1], length);
     let mut appended = numbers;
-    appended.resize(PAYLOAD_NUMBERS, 65535);
-    group.write(&appended, BRIEF);
+    appended.resize(6000, 65535);
+    group.write(&appended, length);
     group
 }
 

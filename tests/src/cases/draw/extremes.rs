@@ -1,15 +1,12 @@
-//! Sheets at the limits: full size, the longest edges, the longest chains.
+//! Small sheets with extreme numbers: the longest edges, the longest chains.
 
 use super::Group;
 use crate::draft::Draft;
 use crate::families::conflicts::spiral;
-use crate::generate::largest;
-use crate::planted::{planted, Plan};
-use crate::random::Random;
-use second::sheet::{EDGE_LIMIT, LAYER_LIMIT, NODE_LIMIT, PLAIN, STRAIGHT, WIDTH_LIMIT};
+use second::sheet::{EDGE_LIMIT, LAYER_LIMIT, PLAIN, STRAIGHT, WIDTH_LIMIT};
 
-/// Small sheets with extreme numbers.
-pub fn extremes() -> Group {
+/// One sheet for each extreme, and those next to it.
+pub fn sheets() -> Group {
     let mut group = Group::new("drawing sheets with extreme numbers");
     group.note("512 edges as long as the greatest width: yes");
     group.draw_exactly(&longest_edges());
@@ -47,24 +44,4 @@ fn chain() -> Draft {
         draft = draft.edge(layer, 1, lower, STRAIGHT);
     }
     draft
-}
-
-/// Sheets with 256 nodes and 512 edges.
-pub fn full() -> Group {
-    let mut group = Group::new("drawing sheets of full size");
-    let mut random = Random::new(35);
-    for layers in [8, 4, 64] {
-        for (name, plan) in [("tight", Plan::FULL_TIGHT), ("wide", Plan::FULL_WIDE)] {
-            group.note(&format!("{layers} layers, {name}: yes"));
-            group.draw_exactly(&planted(&mut random, &Plan { layers, ..plan }));
-        }
-    }
-    group.note("one short, each slice alone: refused");
-    let bytes = planted(&mut random, &Plan::FULL_TIGHT).bytes();
-    let (places, list) = (NODE_LIMIT.into(), 1024);
-    group.draw(&bytes, places - 1, list);
-    group.draw(&bytes, places, list - 1);
-    group.note("the sheet with the most numbers, which has no drawing: no");
-    group.draw_exactly(&largest());
-    group
 }

@@ -1,102 +1,18 @@
-//! Pull lists that differ a little from ones that show a least drawing.
+//! Pull lists that break one rule, while their floor equals the total.
 
 use super::{Case, Group};
 use crate::document;
 use crate::draft::Draft;
-use crate::mutation::{
-    around_layers, around_pairs, around_parallel_edges, changed, circulate, exchanged, first_push,
-    moved_pushes, pull_changes,
-};
-use crate::random::Random;
+use crate::mutation::{around_pairs, changed, first_push, moved_pushes, pull_changes};
 use second::sheet::{PLAIN, STRAIGHT};
 
-/// Sheets of different shape, each with its leftmost least drawing and a list that shows it.
-pub(super) fn samples() -> Vec<(&'static str, Case)> {
-    let rigid = Draft::new(3, &[3, 2])
-        .separation(1, 1, 1, 1)
-        .separation(1, 2, 2, 2)
-        .edge(1, 1, 2, PLAIN)
-        .edge(1, 1, 2, PLAIN)
-        .edge(1, 3, 2, STRAIGHT);
-    let drafts = [
-        ("first sheet", document::first()),
-        ("stair", document::stair(2, PLAIN)),
-        ("two over three", document::two_over_three(1)),
-        ("one over three", document::one_over_three()),
-        ("parallel edges under a rigid layer", rigid),
-    ];
-    let sample = |(name, draft)| (name, Case::drawn(&draft));
-    drafts.into_iter().map(sample).collect()
-}
-
-/// Lists with one thing changed.
-pub fn near_misses() -> Group {
-    let mut group = Group::new("lists with one thing changed");
-    for (name, case) in samples() {
-        group.note(&format!("{name}, unchanged: yes"));
-        group.check_tight(&case);
-        for (kind, lists) in [
-            (
-                "one number one more, one less, its sign turned",
-                changed(&case.list, pull_changes),
-            ),
-            ("two neighbours exchanged", exchanged(&case.list)),
-        ] {
-            group.note(&format!("{name}, {kind}"));
-            group.check_lists(&case, lists);
-        }
-    }
-    one_of_three_pairs(&mut group);
-    group
-}
-
-/// Adds a layer of four nodes with a push on one pair, and the push moved to the next pair.
-fn one_of_three_pairs(group: &mut Group) {
-    for left in 1..=3 {
-        let draft = Draft::new(5, &[4, 1])
-            .edge(1, left, 1, PLAIN)
-            .edge(1, left + 1, 1, PLAIN);
-        let case = Case::drawn(&draft);
-        group.note(&format!("a push on pair {left} of three: yes"));
-        group.check_tight(&case);
-        group.note("the push moved to the next pair or the one before: no");
-        for list in moved_pushes(&draft.sheet(), &case.list) {
-            group.check_tight(&Case::new(&draft, &case.places, &list));
-        }
-    }
-}
-
-/// Lists with changes that keep the balance at every node.
-pub fn circulations() -> Group {
-    let mut group = Group::new("changes that keep the balance");
-    let mut random = Random::new(20);
-    for (name, case) in samples() {
-        let sheet = case.draft.sheet();
-        let mut lists = Vec::new();
-        for amount in [1, -1] {
-            lists.extend(around_layers(&sheet, &case.list, amount));
-            lists.extend(around_pairs(&sheet, &case.list, amount));
-            lists.extend(around_parallel_edges(&sheet, &case.list, amount));
-        }
-        for _ in 0..8 {
-            let mut list = case.list.clone();
-            circulate(&mut random, &sheet, &mut list, 1);
-            if !lists.contains(&list) {
-                lists.push(list);
-            }
-        }
-        group.note(&format!("{name}, changes around a cycle"));
-        group.check_lists(&case, lists);
-    }
-    group
-}
-
 /// Lists whose floor equals the total, and all rules but one are met.
-pub fn rules() -> Group {
+pub fn lists() -> Group {
     let mut group = Group::new("one rule broken, the floor equal to the total");
     pulls(&mut group);
     pushes(&mut group);
     balance(&mut group);
+    one_of_three_pairs(&mut group);
     floor(&mut group);
     group
 }
@@ -214,9 +130,11 @@ fn balance(group: &mut Group) {
         }
     }
     group.note("one push of the left boundary: no");
-    for (_, mut case) in samples() {
-        case.list[first_push(&case.draft.sheet(), 0)] += 1;
-        group.check_tight(&case);
+    for (_, draft) in document::sheets() {
+        if let Some(mut case) = Case::solved(&draft) {
+            case.list[first_push(&draft.sheet(), 0)] += 1;
+            group.check_tight(&case);
+        }
     }
     group.note("one push of the right boundary, width 0: no");
     let case = Case::drawn(&document::one_node());
@@ -224,6 +142,22 @@ fn balance(group: &mut Group) {
     group.note("both boundaries, width 0: yes");
     group.check_tight(&Case::new(&case.draft, &[0], &[5, 5]));
     edge_balance(group);
+}
+
+/// Adds a layer of four nodes with a push on one pair, and the push moved to the next pair.
+fn one_of_three_pairs(group: &mut Group) {
+    for left in 1..=3 {
+        let draft = Draft::new(5, &[4, 1])
+            .edge(1, left, 1, PLAIN)
+            .edge(1, left + 1, 1, PLAIN);
+        let case = Case::drawn(&draft);
+        group.note(&format!("a push on pair {left} of three: yes"));
+        group.check_tight(&case);
+        group.note("the push moved to the next pair or the one before: no");
+        for list in moved_pushes(&draft.sheet(), &case.list) {
+            group.check_tight(&Case::new(&draft, &case.places, &list));
+        }
+    }
 }
 
 /// Adds lists in which only the pulls are out of balance.

@@ -1,0 +1,26 @@
+//! The calls of which cases are made.
+
+/// A call of a function, with slices of these lengths.
+#[derive(Clone, Debug)]
+pub enum Call {
+    /// Reads a sheet from its bytes into a slice of so many numbers.
+    Read { bytes: Vec<u8>, room: usize },
+    /// Writes a sheet from its numbers into a slice of so many bytes.
+    Write { numbers: Vec<u16>, room: usize },
+    /// Reads one number at a position.
+    ReadNumber { bytes: Vec<u8>, at: usize },
+    /// Writes one number at a position of a slice of so many bytes.
+    WriteNumber { n: u32, at: usize, room: usize },
+    /// Checks a pull list.
+    Check {
+        bytes: Vec<u8>,
+        places: Vec<u16>,
+        list: Vec<i32>,
+    },
+    /// Draws a sheet into slices of so many places and so many list numbers.
+    Draw {
+        bytes: Vec<u8>,
+        places: usize,
+        list: usize,
+    },
+}
