@@ -1,12 +1,12 @@
--- What the call takes: a network of packed arcs, potentials to start from that are feasible, and every node hung on ground.
-use Rattle.network.specs.Net.{at, Net, arcs, tail, head, kink, low, high, stands, asks, HardHigh, HardLow}
+-- What the call takes: packed arcs with small limits, potentials to start from that are feasible, and every node hung on ground.
+use Rattle.network.specs.Net.{at, Net, arcs, low, high, stands, asks, HardHigh, HardLow}
 use mathlib.Core.Path.{_≡_}
 use mathlib.Core.List.{List}
 use mathlib.Core.Logic.{_⊎_}
 use Prim.Native.Nat.{ℕ, _+_, _-_, _*_, _≤_, _<_}
-use lib.ListN.{length}
 use Rattle.network.specs.Packed.{stride, tail-at, head-at, high-at, high-none, flow-zero}
-use Rattle.circulation.specs.Limits.{most-nodes, most-arcs, kink-most, low-least, high-most, start-limit}
+use Rattle.network.specs.WellFormed.{WellFormed}
+use Rattle.circulation.specs.Limits.{low-least, high-most, start-limit}
 
 -- no arc is on a forbidden side
 pub record Feasible (N : Net) (p : ℕ → ℕ) : Type 0 where
@@ -23,21 +23,14 @@ pub record HighIn (h : ℕ) : Type 0 where
   pub bottom : flow-zero ≤ h
   pub soft : (h ≡ high-none → ⊥) → h ≤ high-most
 
--- what the numbers of an arc must be, at n nodes
-pub record ArcIn (N : Net) (n i : ℕ) : Type 0 where
-  pub tail-in : tail N i < n
-  pub head-in : head N i < n
-  pub kink-in : kink N i ≤ kink-most
+-- the limits of arc i
+pub record LimitsIn (N : Net) (i : ℕ) : Type 0 where
   pub low-in : LowIn (low N i)
   pub high-in : HighIn (high N i)
 
--- a network: few nodes and arcs, and each arc as it must be
-pub record WellFormed (N : Net) (n : ℕ) : Type 0 where
-  pub room : stride * arcs N ≤ length (N .list)
-  pub some : 0 < n
-  pub nodes : n ≤ most-nodes
-  pub few : arcs N ≤ most-arcs
-  pub arc-in : (i : ℕ) → i < arcs N → ArcIn N n i
+-- the limits of every arc
+pub record Limited (N : Net) : Type 0 where
+  pub each : (i : ℕ) → i < arcs N → LimitsIn N i
 
 -- potentials to start from
 abbrev pub First : (ℕ → ℕ) → Type 0
@@ -62,6 +55,7 @@ pub record Rooted (N : Net) (n : ℕ) : Type 0 where
 -- an input that the method takes
 pub record Valid (N : Net) (n : ℕ) (p : List ℕ) : Type 0 where
   pub wf : WellFormed N n
+  pub limited : Limited N
   pub p-in : First (at p)
   pub feasible : Feasible N (at p)
   pub rooted : Rooted N n

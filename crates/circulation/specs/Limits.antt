@@ -1,17 +1,5 @@
--- The limits of what is taken, and of what the method stores.
+-- The limits of flows that are taken, and of what the method stores.
 use Prim.Native.Nat.{ℕ}
-
--- nodes, with ground
-abbrev pub most-nodes : ℕ
-most-nodes = 4096
-
--- arcs
-abbrev pub most-arcs : ℕ
-most-arcs = 8192
-
--- a kink as it is stored: at most 65,536, with 65,536 added
-abbrev pub kink-most : ℕ
-kink-most = 131072
 
 -- a low limit as it is stored: at least -1,024, with 2^28 added
 abbrev pub low-least : ℕ

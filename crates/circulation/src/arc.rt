@@ -10,7 +10,7 @@ ghost use Prim.Native.Nat.{_+_, _*_, _≤_, _<_};
 ghost use lib.ListN.{length, set};
 ghost use Rattle.network.specs.Net.{at};
 ghost use Rattle.network.specs.Packed.{«head-at», «high-at», «kink-at», «low-at», stride, «tail-at»};
-ghost use Rattle.circulation.specs.Limits.{«most-arcs»};
+ghost use Rattle.network.specs.Limits.{«most-arcs»};
 
 // The tail of arc i.
 pub fn tail_of(arcs: &[u32], i: usize) -> usize

@@ -15,7 +15,7 @@ ghost use lib.ListN.{length};
 ghost use Rattle.circulation.specs.inside.Search.{Amount, Pushable, Pushed, Walked};
 ghost use Rattle.circulation.specs.inside.Steps.{Augments, ReachedAt};
 ghost use Rattle.network.specs.Net.{at, net};
-ghost use Rattle.circulation.specs.Limits.{«most-nodes»};
+ghost use Rattle.network.specs.Limits.{«most-nodes»};
 ghost use Rattle.circulation.specs.Nodes.{«need-zero», needs, potentials, rooms, size};
 
 // Moves as much as can be from s, which needs some, to t, which has something to spare.

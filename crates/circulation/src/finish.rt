@@ -6,12 +6,13 @@ use crate::nodes::count_of;
 use crate::nodes::fill;
 use crate::nodes::get;
 use crate::nodes::put;
+use network::clear;
 ghost use mathlib.Core.Path.{_≡_};
 ghost use Prim.Native.Nat.{ℕ, _≤_};
 ghost use Rattle.network.specs.Net.{at};
 ghost use Rattle.circulation.specs.inside.Finish.{Grounded, Settled, Zeroed};
 ghost use Rattle.circulation.specs.Nodes.{«node-stride», potentials, size};
-ghost use Rattle.circulation.specs.Limits.{«most-nodes»};
+ghost use Rattle.network.specs.Limits.{«most-nodes»};
 
 // Potentials relative to ground's, and every other number 0.
 pub fn finish(nodes: &mut [u32], chains: &mut [u32])
@@ -22,7 +23,7 @@ pub fn finish(nodes: &mut [u32], chains: &mut [u32])
 {
     settle(nodes);
     clear_others(nodes);
-    erase(chains);
+    clear(chains);
 }
 
 // Potentials relative to ground's, with POTENTIAL_ZERO added.
@@ -50,16 +51,5 @@ fn clear_others(nodes: &mut [u32])
     while k < NODE_STRIDE {
         fill(nodes, k, 0);
         k += 1;
-    }
-}
-
-// Every number is 0.
-fn erase(chains: &mut [u32])
-    ensures { λ _. ⌜ ((i : ℕ) → at (now (chains .exit)) i ≡ 0) ⌝ }
-{
-    let mut i = 0;
-    while i < chains.len() {
-        chains[i] = 0;
-        i += 1;
     }
 }

@@ -4,8 +4,8 @@ use crate::arc::head_of;
 use crate::arc::tail_of;
 use crate::gap::NEVER;
 ghost use Prim.Native.Nat.{_≤_, _<_};
-ghost use Rattle.circulation.specs.Input.{WellFormed};
-ghost use Rattle.circulation.specs.Limits.{«most-nodes»};
+ghost use Rattle.network.specs.WellFormed.{WellFormed};
+ghost use Rattle.network.specs.Limits.{«most-nodes»};
 ghost use Rattle.network.specs.Net.{net};
 
 // Number j of the hints; 0 past their end. Hints only propose arcs: nothing is proved of them.

@@ -1,30 +1,27 @@
 // What the call takes.
 use crate::arc::head_of;
 use crate::arc::high_of;
-use crate::arc::kink_of;
 use crate::arc::low_of;
 use crate::arc::tail_of;
 use crate::limits::HIGH_MOST;
 use crate::limits::LOW_LEAST;
-use crate::limits::MAX_ARCS;
-use crate::limits::MAX_KINK;
-use crate::limits::MAX_NODES;
 use crate::limits::NO_FLOW;
 use crate::limits::UNLIMITED;
 use crate::nodes::POTENTIAL;
 use crate::nodes::count_of;
 use crate::nodes::get;
 use crate::start::first_flow;
-use network::layout::STRIDE;
+use network::well_formed;
 ghost use mathlib.Core.Path.{_≡_};
 ghost use Prim.Native.Nat.{_+_, _*_, _≤_, _<_};
 ghost use lib.ListN.{length};
-ghost use Rattle.circulation.specs.Input.{ArcIn, Feasible, First, HangsBy, HighIn, LowIn, Rooted, Valid, WellFormed};
+ghost use Rattle.network.specs.WellFormed.{WellFormed};
+ghost use Rattle.circulation.specs.Input.{Feasible, First, HangsBy, HighIn, Limited, LimitsIn, LowIn, Rooted, Valid};
 ghost use Rattle.circulation.specs.inside.Steps.{Hanger};
 ghost use Rattle.circulation.specs.inside.Slackness.{Small};
 ghost use Rattle.network.specs.Tested.{Tested};
 ghost use Rattle.network.specs.Net.{at, net};
-ghost use Rattle.circulation.specs.Limits.{«most-arcs», «most-nodes»};
+ghost use Rattle.network.specs.Limits.{«most-arcs», «most-nodes»};
 ghost use Rattle.circulation.specs.Nodes.{potentials, size};
 ghost use Rattle.network.specs.Packed.{stride};
 
@@ -36,6 +33,9 @@ pub fn valid(arcs: &[u32], nodes: &[u32], m: usize) -> bool
     if !well_formed(arcs, m, n) {
         return false;
     }
+    if !limited(arcs, m) {
+        return false;
+    }
     if !low_start(nodes, n) {
         return false;
     }
@@ -45,25 +45,14 @@ pub fn valid(arcs: &[u32], nodes: &[u32], m: usize) -> bool
     meets(arcs, nodes, m)
 }
 
-// Whether the network is one.
-fn well_formed(arcs: &[u32], m: usize, n: usize) -> bool
-    ensures { λ r. ⌜ Tested (WellFormed (net (now (arcs .entry)) m) n) r ⌝ }
+// Whether the limits of every arc are small.
+fn limited(arcs: &[u32], m: usize) -> bool
+    requires { ⌜ (stride * m ≤ length (now arcs)) × (m ≤ most-arcs) ⌝ }
+    ensures { λ r. ⌜ Tested (Limited (net (now (arcs .entry)) m)) r ⌝ }
 {
-    if n == 0 {
-        return false;
-    }
-    if n > MAX_NODES {
-        return false;
-    }
-    if m > MAX_ARCS {
-        return false;
-    }
-    if arcs.len() < STRIDE * m {
-        return false;
-    }
     let mut i = 0;
     while i < m {
-        if !arc_ok(arcs, i, n, m) {
+        if !limits_ok(arcs, i, m) {
             return false;
         }
         i += 1;
@@ -71,20 +60,11 @@ fn well_formed(arcs: &[u32], m: usize, n: usize) -> bool
     true
 }
 
-// Whether the numbers of arc i are good, at n nodes.
-fn arc_ok(arcs: &[u32], i: usize, n: usize, m: usize) -> bool
+// Whether the limits of arc i are small.
+fn limits_ok(arcs: &[u32], i: usize, m: usize) -> bool
     requires { ⌜ (stride * i + stride ≤ length (now arcs)) × (i < most-arcs) ⌝ }
-    ensures { λ r. ⌜ Tested (ArcIn (net (now (arcs .entry)) m) n i) r ⌝ }
+    ensures { λ r. ⌜ Tested (LimitsIn (net (now (arcs .entry)) m) i) r ⌝ }
 {
-    if tail_of(arcs, i) >= n {
-        return false;
-    }
-    if head_of(arcs, i) >= n {
-        return false;
-    }
-    if kink_of(arcs, i) > MAX_KINK {
-        return false;
-    }
     if !low_ok(low_of(arcs, i)) {
         return false;
     }
@@ -142,6 +122,7 @@ fn low_start(nodes: &[u32], n: usize) -> bool
 fn meets(arcs: &[u32], nodes: &[u32], m: usize) -> bool
     requires { ⌜ WellFormed (net (now arcs) m) (size (now nodes)) ⌝ }
     requires { ⌜ Small (at (potentials (now nodes))) ⌝ }
+    requires { ⌜ Limited (net (now arcs) m) ⌝ }
     ensures { λ r. ⌜ Tested (Feasible (net (now (arcs .entry)) m) (at (potentials (now (nodes .entry))))) r ⌝ }
 {
     let mut i = 0;

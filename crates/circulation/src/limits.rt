@@ -1,15 +1,6 @@
-// The limits of what is taken, and the limits and flows of arcs as 64-bit numbers.
+// The limits of flows that are taken, and of arcs as 64-bit numbers.
 use network::layout::FLOW_ZERO;
 use network::layout::HIGH_NONE;
-
-// So many nodes with ground are taken.
-pub const MAX_NODES: usize = 4096;
-
-// So many arcs are taken.
-pub const MAX_ARCS: usize = 8192;
-
-// A kink as it is stored is at most this: 65,536, with 65,536 added.
-pub const MAX_KINK: usize = 131072;
 
 // A low limit as it is stored is none or at least this: -1,024, with 2^28 added.
 pub const LOW_LEAST: usize = 268434432;

@@ -5,7 +5,7 @@ ghost use Prim.Native.Nat.{ℕ, _≤_, _<_};
 ghost use Rattle.circulation.specs.inside.Stores.{Apart, Stored};
 ghost use Rattle.network.specs.Net.{at};
 ghost use Rattle.circulation.specs.Nodes.{column, size};
-ghost use Rattle.circulation.specs.Limits.{«most-nodes»};
+ghost use Rattle.network.specs.Limits.{«most-nodes»};
 
 // What is added to a need: 2^30.
 pub const NEED_ZERO: usize = 1073741824;

@@ -9,7 +9,8 @@ ghost use Rattle.circulation.specs.inside.Stores.{Apart, Stored};
 ghost use Rattle.circulation.specs.inside.Search.{Moved, lift};
 ghost use Rattle.circulation.specs.inside.Slackness.{Small};
 ghost use Rattle.network.specs.Net.{at};
-ghost use Rattle.circulation.specs.Limits.{«most-nodes», «potential-limit»};
+ghost use Rattle.network.specs.Limits.{«most-nodes»};
+ghost use Rattle.circulation.specs.Limits.{«potential-limit»};
 ghost use Rattle.circulation.specs.Nodes.{potentials, ranks, size};
 
 // Raises node v by d where it is reached.

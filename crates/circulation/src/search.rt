@@ -26,10 +26,11 @@ ghost use lib.ListN.{length};
 ghost use Rattle.circulation.specs.inside.Stores.{Begun, Reaches};
 ghost use Rattle.circulation.specs.inside.Steps.{CrossingAt, Extended, Flooded, GrownAt, Searches, Source, StateAt};
 ghost use Rattle.circulation.specs.inside.Search.{RoomOver};
-ghost use Rattle.circulation.specs.Input.{Rooted, WellFormed};
+ghost use Rattle.network.specs.WellFormed.{WellFormed};
+ghost use Rattle.circulation.specs.Input.{Limited, Rooted};
 ghost use Rattle.network.specs.Net.{at, high, low, net};
 ghost use Rattle.network.specs.Packed.{«head-at», stride, «tail-at»};
-ghost use Rattle.circulation.specs.Limits.{«most-arcs», «most-nodes»};
+ghost use Rattle.network.specs.Limits.{«most-arcs», «most-nodes»};
 ghost use Rattle.circulation.specs.Nodes.{«need-zero», needs, ranks, rooms, size};
 
 // A node with less inflow than outflow, the last one.
@@ -135,6 +136,7 @@ fn room_over(arcs: &[u32], flows: &[u32], nodes: &[u32], i: usize, v: usize) -> 
     requires { ⌜ WellFormed (net (now arcs) (length (now flows))) (size (now nodes)) ⌝ }
     requires { ⌜ i < length (now flows) ⌝ }
     requires { ⌜ (low (net (now arcs) (length (now flows))) i ≤ at (now flows) i) × (at (now flows) i ≤ high (net (now arcs) (length (now flows))) i) ⌝ }
+    requires { ⌜ Limited (net (now arcs) (length (now flows))) ⌝ }
     ensures { λ r. ⌜ RoomOver (net (now (arcs .entry)) (length (now (flows .entry)))) (at (now (flows .entry))) (at (rooms (now (nodes .entry)))) i v r ⌝ }
     ensures { λ r. ⌜ r < 4294967296 ⌝ }
 {

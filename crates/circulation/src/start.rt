@@ -19,9 +19,11 @@ ghost use Prim.Native.Nat.{ℕ, _+_, _≤_, _<_};
 ghost use lib.ListN.{length};
 ghost use Rattle.circulation.specs.inside.Stores.{Apart};
 ghost use Rattle.circulation.specs.inside.Slackness.{Filled, FilledAt, Small, inflow, outflow, pick};
-ghost use Rattle.circulation.specs.Input.{Valid, WellFormed};
+ghost use Rattle.network.specs.WellFormed.{WellFormed};
+ghost use Rattle.circulation.specs.Input.{Valid};
 ghost use Rattle.network.specs.Net.{asks, at, high, low, net, stands};
-ghost use Rattle.circulation.specs.Limits.{«high-most», «low-least», «most-nodes»};
+ghost use Rattle.network.specs.Limits.{«most-nodes»};
+ghost use Rattle.circulation.specs.Limits.{«high-most», «low-least»};
 ghost use Rattle.circulation.specs.Nodes.{«need-zero», needs, potentials, size};
 
 // The flows to start with.

@@ -5,7 +5,7 @@ use mathlib.Core.List.{List}
 use lib.ListN.{length, take}
 use Rattle.network.specs.Network.{Network, Feasible, integers}
 use Rattle.network.specs.Net.{at, Net, meant}
-use Rattle.difference.specs.Limits.{kink-size}
+use Rattle.network.specs.Limits.{kink-size}
 use Rattle.difference.specs.Input.{Taken}
 use Rattle.difference.specs.declared.Answer.{Answer}
 use Rattle.difference.specs.declared.Answer.the-variants.{Solved, NoSolution, Malformed}

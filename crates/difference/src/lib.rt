@@ -1,13 +1,12 @@
 // The least solution of difference constraints, read off the hard sides of packed arcs: every value starts at 0 and is
 // raised only where an arc forces it.
-mod form;
 mod limits;
 mod number;
 mod raise;
 mod sweep;
 
-use crate::form::well_formed;
 use crate::sweep::run;
+use network::well_formed;
 ghost use Rattle.network.specs.Net.{net};
 ghost use Rattle.difference.specs.Solutions.{finding, Means};
 

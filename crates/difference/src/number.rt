@@ -5,7 +5,7 @@ ghost use Prim.Native.Nat.{_+_, _*_, _≤_, _<_};
 ghost use lib.ListN.{length};
 ghost use Rattle.network.specs.Net.{at};
 ghost use Rattle.network.specs.Packed.{stride};
-ghost use Rattle.difference.specs.Limits.{«most-arcs»};
+ghost use Rattle.network.specs.Limits.{«most-arcs»};
 
 // A stored number as an index.
 pub fn wide(x: u32) -> usize

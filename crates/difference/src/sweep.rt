@@ -2,11 +2,12 @@
 use crate::Found;
 use crate::raise::both;
 use crate::raise::raise_arc;
+use network::clear;
 ghost use mathlib.Core.Path.{_≡_};
-ghost use Prim.Native.Nat.{ℕ, _<_};
+ghost use Prim.Native.Nat.{_<_};
 ghost use lib.ListN.{length};
-ghost use Rattle.network.specs.Net.{at, net};
-ghost use Rattle.difference.specs.Input.{WellFormed};
+ghost use Rattle.network.specs.Net.{net};
+ghost use Rattle.network.specs.WellFormed.{WellFormed};
 ghost use Rattle.difference.specs.inside.Constraints.{AllMet, Ready};
 ghost use Rattle.difference.specs.inside.Steps.{Stepped, turn, Swept, Ran};
 
@@ -35,17 +36,6 @@ fn pass(arcs: &[u32], count: usize, back: bool, values: &mut [u32]) -> Found
         i += 1;
     }
     found
-}
-
-// Every value is 0.
-fn clear(values: &mut [u32])
-    ensures { λ _. ⌜ ((u : ℕ) → at (now (values .exit)) u ≡ 0) ⌝ }
-{
-    let mut u = 0;
-    while u < values.len() {
-        values[u] = 0;
-        u += 1;
-    }
 }
 
 // The least solution in values, and whether there is one; where there is none every value is 0.

@@ -6,4 +6,6 @@ pub mod Network
 pub mod Flows
 pub mod Packed
 pub mod Net
+pub mod Limits
+pub mod WellFormed
 pub mod laws

@@ -58,6 +58,7 @@ module _ {N : Net} {s t d : ℕ} {p x₀ x e order via room : List ℕ} (e′ : 
   pub augmented : State N p x e′
   augmented = record {
     wf = r .state .wf;
+    limited = r .state .limited;
     x-size = w .size-same ∙ r .state .x-size;
     e-size = e-size ∙ r .state .e-size;
     p-in = r .state .p-in;

@@ -1,7 +1,7 @@
 -- How high potentials rise: reached nodes are near the source, a step makes an arc to an unreached node tight, and a node
 -- with something to spare never rises; so no count of searches enters.
 use Rattle.network.specs.Net.{Net, arcs, tail, head}
-use Rattle.circulation.specs.Input.{WellFormed}
+use Rattle.network.specs.WellFormed.{WellFormed}
 use Rattle.circulation.specs.inside.Search.{Crosses, step, Near, lifted, Link}
 use mathlib.Core.Path.{_≡_, ap}
 use mathlib.Core.Logic.{⊎-elim}
@@ -9,7 +9,7 @@ use Prim.Native.Nat.{ℕ, _+_, _*_, _≤_, _<_}
 use native.Mathlib.Omega.{arith}
 use Rattle.circulation.proofs.laws.Moves.{lift-in}
 use Rattle.network.specs.Packed.{high-none, kink-zero}
-use Rattle.circulation.specs.Limits.{most-nodes}
+use Rattle.network.specs.Limits.{most-nodes}
 
 -- the reached nodes rise together, and stay near
 pub near-lifted : {n s : ℕ} {order p : ℕ → ℕ} (d : ℕ) → 0 < order s → Near n s order p → Near n s order (lifted order p d)
@@ -24,9 +24,9 @@ pub near-link : {N : Net} {n s : ℕ} {order p x room : ℕ → ℕ} (v i : ℕ)
     → (p v ≤ p s + kink-zero * order v) × (p s ≤ p v + kink-zero * order v)
 near-link {N} {n} {s} {order} {p} v i wf k near = ⊎-elim
     (λ c. let b = near (head N i) (wf .arc-in i (k .arc-in) .head-in) (c .1) (c .2) in
-    (omega (arith, b .0, b .1, c .2, ap p (c .0), k .tight, wf .arc-in i (k .arc-in) .kink-in), omega (arith, b .0, b .1, c .2, ap p (c .0), k .tight, wf .arc-in i (k .arc-in) .kink-in)))
+    (omega (arith, b .0, b .1, c .2, ap p (c .0), k .tight, wf .arc-in i (k .arc-in) .kink-high), omega (arith, b .0, b .1, c .2, ap p (c .0), k .tight, wf .arc-in i (k .arc-in) .kink-high)))
     (λ c. let b = near (tail N i) (wf .arc-in i (k .arc-in) .tail-in) (c .1) (c .2) in
-    (omega (arith, b .0, b .1, c .2, ap p (c .0), k .tight, wf .arc-in i (k .arc-in) .kink-in), omega (arith, b .0, b .1, c .2, ap p (c .0), k .tight, wf .arc-in i (k .arc-in) .kink-in)))
+    (omega (arith, b .0, b .1, c .2, ap p (c .0), k .tight, wf .arc-in i (k .arc-in) .kink-high), omega (arith, b .0, b .1, c .2, ap p (c .0), k .tight, wf .arc-in i (k .arc-in) .kink-high)))
     (k .ends)
 
 -- a step that an arc to an unreached node limits: no reached node comes higher than 2 ^ 29 over the unreached ones
@@ -34,8 +34,8 @@ pub raise-top : {N : Net} {n s count top : ℕ} {order p : ℕ → ℕ} (x : ℕ
     → ((v : ℕ) → v < n → order v ≡ 0 → p v ≤ top) → Crosses N p x order i
     → (w : ℕ) → w < n → 0 < order w → p w + step N p i ≤ top + high-none
 raise-top {N} {n} {s} {count} {top} {order} {p} x i l wf m ranks few low cross w w-in w-reached = ⊎-elim
-    (λ c. omega (arith, c .slack, wf .arc-in i l .kink-in, wf .nodes, low (tail N i) (wf .arc-in i l .tail-in) (c .to), m .below (head N i) (wf .arc-in i l .head-in) (c .from), m .above w w-in w-reached, ranks w, ranks (head N i)))
-    (λ c. omega (arith, c .slack, wf .arc-in i l .kink-in, wf .nodes, low (head N i) (wf .arc-in i l .head-in) (c .to), m .below (tail N i) (wf .arc-in i l .tail-in) (c .from), m .above w w-in w-reached, ranks w, ranks (tail N i)))
+    (λ c. omega (arith, c .slack, wf .arc-in i l .kink-high, wf .nodes, low (tail N i) (wf .arc-in i l .tail-in) (c .to), m .below (head N i) (wf .arc-in i l .head-in) (c .from), m .above w w-in w-reached, ranks w, ranks (head N i)))
+    (λ c. omega (arith, c .slack, wf .arc-in i l .kink-high, wf .nodes, low (head N i) (wf .arc-in i l .head-in) (c .to), m .below (tail N i) (wf .arc-in i l .tail-in) (c .from), m .above w w-in w-reached, ranks w, ranks (tail N i)))
     cross
 
 -- the search has come to t, which never rose: every reached node is within 2 ^ 29 of where t stood at the start

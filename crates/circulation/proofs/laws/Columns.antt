@@ -2,7 +2,7 @@
 use Rattle.network.specs.Net.{at}
 use Rattle.circulation.specs.laws.Columns.{column-length, column-at, column-past}
 use Rattle.circulation.specs.Nodes.{column, potentials, ranks, rooms, size, node-stride}
-use Rattle.circulation.specs.Limits.{most-nodes}
+use Rattle.network.specs.Limits.{most-nodes}
 use Rattle.circulation.specs.inside.Stores.{Stored, Apart, Reaches, Begun}
 use mathlib.Core.Path.{_≡_, refl, sym, ap, _∙_}
 use mathlib.Core.List.{List}

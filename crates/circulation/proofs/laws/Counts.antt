@@ -13,7 +13,8 @@ use native.Mathlib.Omega.{arith}
 use lib.ListN.{length}
 use Rattle.circulation.proofs.laws.Flows.{flow-le, pick-yes, pick-no}
 use Rattle.network.specs.Packed.{flow-zero}
-use Rattle.circulation.specs.Limits.{most-arcs, low-least, high-most}
+use Rattle.network.specs.Limits.{most-arcs}
+use Rattle.circulation.specs.Limits.{low-least, high-most}
 
 -- the flow of one arc more
 flow-suc : (i : ℕ) (ends : ℕ → ℕ) (x : ℕ → ℕ) (v : ℕ) → flow (i + 1) ends x v ≡ pick (ends i) v (x i) + flow i ends x v

@@ -4,7 +4,8 @@ use Rattle.network.specs.Sums.{sum-to}
 use Rattle.network.specs.laws.SumsTo.{sum-to-le, sum-to-lt, sum-to-eq, sum-to-change, sum-to-zero, sum-to-add, sum-to-swap}
 use Rattle.network.specs.Net.{Net, arcs, tail, head, low, high, asks, stands}
 use Rattle.circulation.specs.inside.Slackness.{pick, flow, inflow, outflow, Slack}
-use Rattle.circulation.specs.Input.{WellFormed}
+use Rattle.network.specs.WellFormed.{WellFormed}
+use Rattle.circulation.specs.Input.{Limited}
 use Rattle.circulation.specs.inside.Search.{Need, Crosses}
 use mathlib.Core.Path.{_≡_, refl, sym, ap, _∙_}
 use mathlib.Core.Logic.{inl, inr}
@@ -76,7 +77,7 @@ keep-add o a b = go (ℕ-discrete o 0)
     go (yes e) = omega (arith, keep-out o (a + b) e, keep-out o a e, keep-out o b e)
     go (no ne) = omega (arith, keep-in o (a + b) (omega arith), keep-in o a (omega arith), keep-in o b (omega arith))
 
-module _ (N : Net) (n : ℕ) (p x order e : ℕ → ℕ) (wf : WellFormed N n) (slack : Slack N p x) (need : Need N n x e)
+module _ (N : Net) (n : ℕ) (p x order e : ℕ → ℕ) (wf : WellFormed N n) (limited : Limited N) (slack : Slack N p x) (need : Need N n x e)
     (none : (i : ℕ) → i < arcs N → Crosses N p x order i → ⊥) where
   -- no arc that ends in the set carries flow out of it
   crossing : (i : ℕ) → i < arcs N
@@ -87,17 +88,17 @@ module _ (N : Net) (n : ℕ) (p x order e : ℕ → ℕ) (wf : WellFormed N n) (
       full from to = try (decLt (asks N p i) (stands N p i)) (decLt (x i) (high N i))
         where
           try : Dec (asks N p i < stands N p i) → Dec (x i < high N i) → flow-zero ≤ x i
-          try (yes more) b = omega (arith, slack .right i l more, wf .arc-in i l .high-in .bottom)
+          try (yes more) b = omega (arith, slack .right i l more, limited .each i l .high-in .bottom)
           try (no le) (yes room) = absurd (none i l (inl (record { from = from; to = to; slack = omega arith; room = room })))
-          try (no le) (no all) = omega (arith, wf .arc-in i l .high-in .bottom)
+          try (no le) (no all) = omega (arith, limited .each i l .high-in .bottom)
 
       empty : 0 < order (tail N i) → order (head N i) ≡ 0 → x i ≤ flow-zero
       empty from to = try (decLt (stands N p i) (asks N p i)) (decLt (low N i) (x i))
         where
           try : Dec (stands N p i < asks N p i) → Dec (low N i < x i) → x i ≤ flow-zero
-          try (yes less) b = omega (arith, slack .left i l less, wf .arc-in i l .low-in .top)
+          try (yes less) b = omega (arith, slack .left i l less, limited .each i l .low-in .top)
           try (no le) (yes room) = absurd (none i l (inr (record { from = from; to = to; slack = omega arith; room = room })))
-          try (no le) (no all) = omega (arith, wf .arc-in i l .low-in .top)
+          try (no le) (no all) = omega (arith, limited .each i l .low-in .top)
 
       go : Dec (order (tail N i) ≡ 0) → Dec (order (head N i) ≡ 0)
           → keep (order (tail N i)) (x i) + keep (order (head N i)) flow-zero ≤ keep (order (head N i)) (x i) + keep (order (tail N i)) flow-zero

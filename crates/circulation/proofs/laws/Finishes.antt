@@ -3,7 +3,8 @@ use Rattle.network.specs.Net.{at, Net, head}
 use Rattle.network.specs.Packed.{kink-zero}
 use Rattle.circulation.specs.laws.Columns.{column-length}
 use Rattle.circulation.specs.Nodes.{column, potentials, size, potential-zero}
-use Rattle.circulation.specs.Input.{WellFormed, Feasible, Hangs, Rooted}
+use Rattle.network.specs.WellFormed.{WellFormed}
+use Rattle.circulation.specs.Input.{Feasible, Hangs, Rooted}
 use Rattle.circulation.specs.inside.Stores.{Stored, Apart}
 use Rattle.circulation.specs.inside.Steps.{Flooded}
 use Rattle.circulation.specs.inside.Finish.{ground-of, Grounded, Settled, Zeroed}
@@ -12,10 +13,10 @@ use mathlib.Core.Path.{_≡_, refl, ap, _∙_}
 use mathlib.Core.Logic.{⊎-elim}
 use mathlib.Core.List.{List}
 use Prim.Native.Nat.{ℕ, zero, suc, _+_, _-_, _*_, _≤_, _<_}
-use native.Mathlib.Decide.{ℕ-discrete, decLt}
+use native.Mathlib.Decide.{ℕ-discrete}
 use native.Mathlib.Omega.{arith}
 use borrow.Author.Count.{below-none, below-more}
-use lib.ListN.{length, set, List·getD-eq-default}
+use lib.ListN.{length}
 use lib.Seq.{getD-set-same, getD-set-other}
 
 module _ (N : Net) (n : ℕ) (p : ℕ → ℕ) (wf : WellFormed N n) (rooted : Rooted N n) (met : Feasible N p) where
@@ -29,8 +30,8 @@ module _ (N : Net) (n : ℕ) (p : ℕ → ℕ) (wf : WellFormed N n) (rooted : R
     where
       step : Hangs N (n - 1) v → ((u : ℕ) → u < v → p (n - 1) ≤ p u + kink-zero * (u + 1)) → p (n - 1) ≤ p v + kink-zero * (v + 1)
       step h before = ⊎-elim
-          (λ c. omega (arith, ap p c, ap p (h .by .from), met .not-right (h .arc) (h .arc-in) (h .by .hard), wf .arc-in (h .arc) (h .arc-in) .kink-in))
-          (λ c. omega (arith, c, before (head N (h .arc)) c, ap p (h .by .from), met .not-right (h .arc) (h .arc-in) (h .by .hard), wf .arc-in (h .arc) (h .arc-in) .kink-in))
+          (λ c. omega (arith, ap p c, ap p (h .by .from), met .not-right (h .arc) (h .arc-in) (h .by .hard), wf .arc-in (h .arc) (h .arc-in) .kink-high))
+          (λ c. omega (arith, c, before (head N (h .arc)) c, ap p (h .by .from), met .not-right (h .arc) (h .arc-in) (h .by .hard), wf .arc-in (h .arc) (h .arc-in) .kink-high))
           (h .by .to)
 
   -- no node is more than 2^28 left of ground
@@ -107,16 +108,3 @@ zeroed-next {k} {nodes} {new} k-in z here apart = record { zero = λ j v some fe
 -- the same potentials are as settled
 pub settled-same : {old mid new : List ℕ} → Settled old mid → potentials new ≡ potentials mid → Settled old new
 settled-same {old} {mid} {new} s e = record { relative = λ v l. ap (λ (p : List ℕ). at p v + ground-of old) e ∙ s .relative v l }
-
--- a list that is filled with 0 from the front: one more element
-pub zeros-more : (l : List ℕ) (i : ℕ) → i < length l → ((k : ℕ) → k < i → at l k ≡ 0) → (k : ℕ) → k < i + 1 → at (set l i 0) k ≡ 0
-zeros-more l i i-in z =
-    below-more _ i (λ k below. getD-set-other l i k 0 0 (omega arith) ∙ z k below) (getD-set-same l i 0 0 i-in)
-
--- every element
-pub zeros-all : (l : List ℕ) → ((k : ℕ) → k < length l → at l k ≡ 0) → (i : ℕ) → at l i ≡ 0
-zeros-all l z i = go (decLt i (length l))
-  where
-    go : Dec (i < length l) → at l i ≡ 0
-    go (yes inside) = z i inside
-    go (no past) = List·getD-eq-default l 0 (omega arith)

@@ -3,7 +3,8 @@
 use Rattle.network.specs.Net.{at, Net, arcs, tail, head, low, high, asks, stands, HardHigh, HardLow}
 use Rattle.network.specs.laws.SumsTo.{sum-to-eq, sum-to-zero, sum-to-ge}
 use Rattle.circulation.specs.inside.Slackness.{Slack}
-use Rattle.circulation.specs.Input.{WellFormed, Feasible, Hangs, Rooted}
+use Rattle.network.specs.WellFormed.{WellFormed}
+use Rattle.circulation.specs.Input.{Feasible, Hangs, Rooted}
 use Rattle.circulation.specs.inside.Search.{Tree, Link, Crosses, Crossing, Grown}
 use mathlib.Core.Path.{_≡_, ap, _∙_}
 use mathlib.Core.Logic.{inl, ⊎-elim}

@@ -4,7 +4,7 @@ use Rattle.network.specs.Net.{Net, arcs, tail, head, low, high, asks, stands}
 use Rattle.circulation.specs.inside.Search.{Enters, Leaves, Distance, Gap, GapAt, Crosses, Crossing, step}
 use Rattle.circulation.specs.inside.Slackness.{Small}
 use Rattle.circulation.specs.inside.Steps.{Nearest}
-use Rattle.circulation.specs.Limits.{kink-most}
+use Rattle.network.specs.Limits.{kink-most}
 use Rattle.network.specs.Packed.{kink-zero}
 use mathlib.Core.Path.{_≡_}
 use mathlib.Core.Logic.{inl, inr, ⊎-elim}

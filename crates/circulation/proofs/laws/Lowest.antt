@@ -18,7 +18,7 @@ use Rattle.network.specs.Flows.{Flow, rules, complementary, tight}
 use Rattle.network.specs.laws.Differences.{tight-high, tight-low}
 use Rattle.network.specs.laws.Duality.{tight-leftmost}
 use Rattle.circulation.specs.inside.Slackness.{Slack, Balanced}
-use Rattle.circulation.specs.Input.{WellFormed}
+use Rattle.network.specs.WellFormed.{WellFormed}
 use Rattle.circulation.specs.inside.Search.{Tree}
 use Rattle.network.specs.Packed.{low-of, high-of, arc-at, high-none, kink-zero, flow-zero}
 use Rattle.circulation.specs.Solutions.{flows-of, potentials-of, Solution}
@@ -159,7 +159,7 @@ flooded-solution N n x nodes new wf size-is bal f settled =
       no-slack = subst (λ (q : List ℤ). T (complementary (meant N n) (flows-of (arcs N) (at x)) q)) (sym same) (r .no-slack);
       best = subst (λ (q : List ℤ). LeftmostLeast (meant N n) q) (sym same) (r .best);
       ground = omega (arith, moved (n - 1) (omega (arith, wf .some)));
-      bounded = x-top wf (f .grown .slack);
+      bounded = x-top (f .grown .ready .limited) (f .grown .slack);
     }
   where
     moved : (v : ℕ) → v < n → at (potentials new) v + at (potentials nodes) (n - 1) ≡ at (potentials nodes) v + potential-zero

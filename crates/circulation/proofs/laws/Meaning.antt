@@ -13,7 +13,7 @@ use Rattle.network.specs.Flows.{Flow, flows, allowed, inflow, balanced, rules, 
 use Rattle.network.specs.laws.Differences.{differences-tight}
 use Rattle.network.specs.Net.{Net, arcs, tail, head, kink, low, high, asks, stands, meant}
 use Rattle.circulation.specs.inside.Slackness.{pick, Slack, Balanced}
-use Rattle.circulation.specs.Input.{WellFormed}
+use Rattle.network.specs.WellFormed.{WellFormed}
 use Rattle.network.specs.Packed.{low-of, high-of, arc-at, high-none, kink-zero, flow-zero}
 use Rattle.circulation.specs.Solutions.{flows-of}
 use mathlib.Core.Path.{_≡_, refl, ap, _∙_}

@@ -1,7 +1,7 @@
 -- The room over an arc, and a node more that is reached, from what the calls answer.
 use Rattle.network.specs.Net.{at, Net, arcs, tail, head, low, high}
 use Rattle.circulation.specs.inside.Slackness.{pick}
-use Rattle.circulation.specs.Input.{WellFormed}
+use Rattle.circulation.specs.Input.{Limited}
 use Rattle.circulation.specs.Nodes.{potentials, needs, ranks, parents, rooms, node-stride}
 use Rattle.circulation.specs.inside.Stores.{Apart, Reaches}
 use Rattle.circulation.specs.inside.Search.{RoomOver, Moved, step, surplus, State, Amount, Walked}
@@ -19,10 +19,10 @@ use Rattle.circulation.proofs.laws.Augmented.{augmented, less-left}
 use Rattle.network.specs.Packed.{high-none}
 
 -- a high limit is at most 2^29
-pub high-top : {N : Net} {n i : ℕ} → WellFormed N n → i < arcs N → high N i ≤ high-none
-high-top {N} {n} {i} wf l = elim (ℕ-discrete (high N i) high-none) [
+pub high-top : {N : Net} {i : ℕ} → Limited N → i < arcs N → high N i ≤ high-none
+high-top {N} {i} limited l = elim (ℕ-discrete (high N i) high-none) [
   | yes e ↦ omega arith
-  | no ne ↦ omega (arith, wf .arc-in i l .high-in .soft ne)
+  | no ne ↦ omega (arith, limited .each i l .high-in .soft ne)
 ]
 
 module _ {N : Net} {x room : ℕ → ℕ} {i v a b r : ℕ} (l : (r ≤ a) × (r ≤ b) × (0 < a → 0 < b → 0 < r)) where

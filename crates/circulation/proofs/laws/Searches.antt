@@ -4,7 +4,8 @@ use Rattle.network.specs.laws.SumsTo.{sum-to-change, sum-to-lt}
 use Rattle.network.specs.Net.{at, Net, arcs}
 use Rattle.network.specs.Sums.{sum-to}
 use Rattle.circulation.specs.inside.Slackness.{inflow, outflow, Slack, Balanced, Low}
-use Rattle.circulation.specs.Input.{WellFormed}
+use Rattle.network.specs.WellFormed.{WellFormed}
+use Rattle.circulation.specs.Input.{Limited}
 use Rattle.circulation.specs.inside.Search.{Grown, Crossing, unreached, State, Reached}
 use Rattle.circulation.specs.inside.Steps.{Extends}
 use mathlib.Core.Path.{_≡_, refl, ap, _∙_}
@@ -42,7 +43,7 @@ pub record Searching (N : Net) (s count : ℕ) (p₀ p x e order via room : List
   pub kept : (v : ℕ) → v < length p → at order v ≡ 0 → at p v ≡ at p₀ v
 
 -- a search that has reached only s
-module _ {N : Net} (p x order via room : List ℕ) (s : ℕ) (s-in : s < length p) (wf : WellFormed N (length p)) (x-size : length x ≡ arcs N) (small : Low (at p)) (slack : Slack N (at p) (at x))
+module _ {N : Net} (p x order via room : List ℕ) (s : ℕ) (s-in : s < length p) (wf : WellFormed N (length p)) (limited : Limited N) (x-size : length x ≡ arcs N) (small : Low (at p)) (slack : Slack N (at p) (at x))
     (order-size : length order ≡ length p) (via-size : length via ≡ length p) (room-size : length room ≡ length p)
     (root : at order s ≡ 1) (alone : (v : ℕ) → (v ≡ s → ⊥) → at order v ≡ 0) (some : 0 < at room s) where
   -- no other node is reached
@@ -68,7 +69,7 @@ module _ {N : Net} (p x order via room : List ℕ) (s : ℕ) (s-in : s < length 
   -- the search at its start
   pub begin-grown : Grown N s 1 p x order via room
   begin-grown = record {
-    ready = record { wf = wf; x-size = x-size; order-size = order-size; p-in = λ v. omega (arith, small v) };
+    ready = record { wf = wf; limited = limited; x-size = x-size; order-size = order-size; p-in = λ v. omega (arith, small v) };
     via-size = via-size;
     room-size = room-size;
     slack = slack;
@@ -91,7 +92,7 @@ search-start {N} {p} {x} {e} {order} {via} {room} s s-in st order-size via-size 
   root-fits = fits;
   size-same = refl;
   grown =
-      begin-grown p x order via room s s-in (st .wf) (st .x-size) (st .p-in) (st .slack) order-size via-size room-size
+      begin-grown p x order via room s s-in (st .wf) (st .limited) (st .x-size) (st .p-in) (st .slack) order-size via-size room-size
       root alone some;
   full = λ v l r. elim (ℕ-discrete v s) [
     | yes same ↦ omega (arith, ap (at e) same)
@@ -104,7 +105,7 @@ search-start {N} {p} {x} {e} {order} {via} {room} s s-in st order-size via-size 
 pub search-crosses : {N : Net} {s count : ℕ} {p₀ p x e order via room : List ℕ}
     → Searching N s count p₀ p x e order via room → Crossing N (at p) (at x) (at order)
 search-crosses {N} {s} {count} {p₀} {p} {x} {e} {order} g none =
-    no-need N (length p) (at p) (at x) (at order) (at e) (g .grown .ready .wf) (g .grown .slack) (rw (g .size-same) (g .state .needs-are)) none
+    no-need N (length p) (at p) (at x) (at order) (at e) (g .grown .ready .wf) (g .grown .ready .limited) (g .grown .slack) (rw (g .size-same) (g .state .needs-are)) none
     (g .full) s (g .grown .tree .s-in) (omega (arith, g .grown .tree .root)) (omega (arith, g .root-fits, g .grown .tree .root-room))
 
 module _ {N : Net} {s count : ℕ} {p₀ p x e order via room p′ order′ via′ room′ : List ℕ} (v : ℕ)
@@ -152,6 +153,7 @@ module _ {N : Net} {s count : ℕ} {p₀ p x e order via room p′ order′ via�
   search-found less = record {
     state = record {
       wf = m .grown .ready .wf;
+      limited = m .grown .ready .limited;
       x-size = g .state .x-size;
       e-size = omega (arith, m .size-same, g .size-same, g .state .e-size);
       p-in = low;

@@ -2,7 +2,7 @@
 -- lesser step.
 use Rattle.network.specs.Net.{Net, arcs, tail, head, low, high, stands, asks}
 use Rattle.circulation.specs.inside.Slackness.{Slack}
-use Rattle.circulation.specs.Input.{WellFormed}
+use Rattle.network.specs.WellFormed.{WellFormed}
 use Rattle.circulation.specs.inside.Search.{Crosses, step, lift, lifted}
 use mathlib.Core.Path.{_≡_}
 use mathlib.Core.Logic.{_⊎_, inl, inr}

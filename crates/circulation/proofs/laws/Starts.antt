@@ -2,7 +2,8 @@
 use Rattle.network.specs.laws.SumsTo.{sum-to-le, sum-to-add, sum-to-bound}
 use Rattle.network.specs.Net.{at, Net, net, arcs, tail, head, low, high, asks, stands}
 use Rattle.circulation.specs.inside.Slackness.{flow, inflow, outflow, Slack, Filled, FilledAt}
-use Rattle.circulation.specs.Input.{WellFormed, LowIn, HighIn, ArcIn, Feasible, Valid}
+use Rattle.network.specs.WellFormed.{WellFormed}
+use Rattle.circulation.specs.Input.{LowIn, HighIn, LimitsIn, Limited, Feasible, Valid}
 use Rattle.circulation.specs.Nodes.{potentials, needs, node-stride, need-zero}
 use Rattle.circulation.specs.inside.Stores.{Apart}
 use Rattle.circulation.specs.inside.Search.{Need, surplus, State}
@@ -29,17 +30,17 @@ store-more P x i a l done here = below-more _ i (λ k below. subst⁻ k below) (
     subst⁻ k below = subst (P k) (sym (getD-set-other x i k a 0 (omega arith))) (done k below)
 
 -- the first flows fit the potentials
-module _ {N : Net} {n : ℕ} (p x : ℕ → ℕ) (wf : WellFormed N n) (met : Feasible N p)
+module _ {N : Net} {n : ℕ} (p x : ℕ → ℕ) (wf : WellFormed N n) (limited : Limited N) (met : Feasible N p)
     (filled : (i : ℕ) → i < arcs N → FilledAt N p i (x i)) where
   -- low and high may not be where the arc stands on that side
   pub first-near : (i : ℕ) → i < arcs N → (low-least ≤ x i) × (x i ≤ high-most)
   first-near i l = go (decLt (stands N p i) (asks N p i)) (decLt (asks N p i) (stands N p i))
     where
       k : LowIn (low N i)
-      k = wf .arc-in i l .low-in
+      k = limited .each i l .low-in
 
       h : HighIn (high N i)
-      h = wf .arc-in i l .high-in
+      h = limited .each i l .high-in
 
       go : Dec (stands N p i < asks N p i) → Dec (asks N p i < stands N p i) → (low-least ≤ x i) × (x i ≤ high-most)
       go (yes less) b = (
@@ -66,15 +67,15 @@ module _ {N : Net} {n : ℕ} (p x : ℕ → ℕ) (wf : WellFormed N n) (met : Fe
           → (low N i ≤ x i) × (x i ≤ high N i)
       within i l (yes less) b = (
         omega (arith, filled i l .left less),
-        omega (arith, filled i l .left less, wf .arc-in i l .low-in .top, wf .arc-in i l .high-in .bottom),
+        omega (arith, filled i l .left less, limited .each i l .low-in .top, limited .each i l .high-in .bottom),
       )
       within i l (no nl) (yes more) = (
-        omega (arith, filled i l .right more, wf .arc-in i l .low-in .top, wf .arc-in i l .high-in .bottom),
+        omega (arith, filled i l .right more, limited .each i l .low-in .top, limited .each i l .high-in .bottom),
         omega (arith, filled i l .right more),
       )
       within i l (no nl) (no nr) = (
-        omega (arith, filled i l .on (omega arith), wf .arc-in i l .low-in .top),
-        omega (arith, filled i l .on (omega arith), wf .arc-in i l .high-in .bottom),
+        omega (arith, filled i l .on (omega arith), limited .each i l .low-in .top),
+        omega (arith, filled i l .on (omega arith), limited .each i l .high-in .bottom),
       )
 
   -- little is to be moved: at most 2^24
@@ -99,17 +100,18 @@ pub first-state : {N : Net} {n : ℕ} {p : List ℕ} (x e : List ℕ) → Valid 
     → ((i : ℕ) → i < arcs N → FilledAt N (at p) i (at x i))
     → ((v : ℕ) → v < n → at e v + inflow N (arcs N) (at x) v ≡ need-zero + outflow N (arcs N) (at x) v) → State N p x e
 first-state {N} {n} {p} x e v p-size x-size e-size filled need =
-    let few = first-surplus (at p) (at x) (v .wf) (v .feasible) filled (record { need = need }) in
+    let few = first-surplus (at p) (at x) (v .wf) (v .limited) (v .feasible) filled (record { need = need }) in
     record {
       wf = rw p-size (v .wf);
+      limited = v .limited;
       x-size = x-size;
       e-size = omega (arith, p-size);
       p-in = λ u. omega (arith, v .p-in u);
       calm = λ u l less. v .p-in u;
-      slack = first-slack (at p) (at x) (v .wf) (v .feasible) filled;
+      slack = first-slack (at p) (at x) (v .wf) (v .limited) (v .feasible) filled;
       needs-are = record { need = λ u l. need u (omega (arith, p-size)) };
-      spare-high = rw p-size (λ i l hard. omega (arith, few, first-near (at p) (at x) (v .wf) (v .feasible) filled i l .1));
-      spare-low = rw p-size (λ i l hard. omega (arith, few, first-near (at p) (at x) (v .wf) (v .feasible) filled i l .0));
+      spare-high = rw p-size (λ i l hard. omega (arith, few, first-near (at p) (at x) (v .wf) (v .limited) (v .feasible) filled i l .1));
+      spare-low = rw p-size (λ i l hard. omega (arith, few, first-near (at p) (at x) (v .wf) (v .limited) (v .feasible) filled i l .0));
     }
 
 -- a flow to start with, from the numbers read
@@ -122,8 +124,8 @@ filled-by N p i a b l h r ea eb el eh f = record {
 }
 
 -- it is at most 2 ^ 29
-pub filled-top : (N : Net) (n : ℕ) (p : ℕ → ℕ) (i y : ℕ) → ArcIn N n i → FilledAt N p i y → y ≤ high-none
-filled-top N n p i y a f =
+pub filled-top : (N : Net) (p : ℕ → ℕ) (i y : ℕ) → LimitsIn N i → FilledAt N p i y → y ≤ high-none
+filled-top N p i y a f =
     go (decLt (stands N p i) (asks N p i)) (decLt (asks N p i) (stands N p i)) (ℕ-discrete (high N i) high-none)
   where
     go : Dec (stands N p i < asks N p i) → Dec (asks N p i < stands N p i) → Dec (high N i ≡ high-none) → y ≤ high-none

@@ -254,6 +254,7 @@ module _ {N : Net} {s count : ℕ} {p x order via room : List ℕ} (g : Grown N 
         grown = record {
           ready = record {
             wf = rw size (g .ready .wf);
+            limited = g .ready .limited;
             x-size = g .ready .x-size;
             order-size = simp length-set (omega (arith, g .ready .order-size));
             p-in = m .small;

@@ -1,7 +1,7 @@
 -- The tests of the input say what they test: an arc is on a forbidden side exactly where its first flow would be unlimited.
 use Rattle.network.specs.Net.{at, Net, arcs, asks, stands, HardLow, HardHigh}
 use Rattle.circulation.specs.Nodes.{potentials, node-stride}
-use Rattle.circulation.specs.Input.{Feasible, ArcIn, First}
+use Rattle.circulation.specs.Input.{Feasible, LimitsIn, First}
 use Rattle.circulation.specs.inside.Slackness.{FilledAt, Small}
 use mathlib.Core.Path.{_≡_}
 use mathlib.Core.List.{List}
@@ -29,7 +29,7 @@ first-small f v = omega (arith, f v)
 abbrev pub Met : Net → (ℕ → ℕ) → ℕ → Type 0
 Met N p i = (HardHigh N i → stands N p i ≤ asks N p i) × (HardLow N i → asks N p i ≤ stands N p i)
 
-module _ (N : Net) (n : ℕ) (p : ℕ → ℕ) (i y : ℕ) (f : FilledAt N p i y) (a : ArcIn N n i) where
+module _ (N : Net) (p : ℕ → ℕ) (i y : ℕ) (f : FilledAt N p i y) (a : LimitsIn N i) where
   -- a first flow that is limited: the arc is on no forbidden side
   pub met-by : (y ≡ 0 → ⊥) → (y ≡ high-none → ⊥) → Met N p i
   met-by not-none not-all = go (decLt (stands N p i) (asks N p i)) (decLt (asks N p i) (stands N p i))

@@ -3,7 +3,7 @@
 use Rattle.network.specs.laws.SumsTo.{at-set}
 use Rattle.network.specs.Net.{at, Net, arcs, tail, head, low, high, stands, asks}
 use Rattle.circulation.specs.inside.Slackness.{pick, flow, inflow, outflow, Slack}
-use Rattle.circulation.specs.Input.{WellFormed}
+use Rattle.network.specs.WellFormed.{WellFormed}
 use Rattle.circulation.specs.inside.Search.{surplus, Link, Reached, Amount, Pushable, Pushed, Walked}
 use mathlib.Core.Path.{_≡_, refl, subst, ap, _∙_}
 use mathlib.Core.Logic.{_⊎_, ⊎-elim}
@@ -99,13 +99,13 @@ module _ {N : Net} {s t d : ℕ} {p x₀ e order via room : List ℕ} where
           (λ c. absurd (omega (arith, c .2, ap (at order) is))) (link .ends);
       down =
           λ ne. ⊎-elim (λ c. absurd (ne (c .0)))
-          (λ c. (omega (arith, c .3, x-same, w .v-room), x-top wf (w .slack) (at via v) (link .arc-in))) (link .ends);
+          (λ c. (omega (arith, c .3, x-same, w .v-room), x-top (w .reached .state .limited) (w .slack) (at via v) (link .arc-in))) (link .ends);
     }
       where
         high-top : high N (at via v) ≤ high-none
         high-top = elim (ℕ-discrete (high N (at via v)) high-none) [
           | yes e ↦ omega arith
-          | no ne ↦ omega (arith, wf .arc-in (at via v) (link .arc-in) .high-in .soft ne)
+          | no ne ↦ omega (arith, w .reached .state .limited .each (at via v) (link .arc-in) .high-in .soft ne)
         ]
 
     -- d moved from u to v over arc i, whose flow becomes a

@@ -4,7 +4,7 @@ use Rattle.circulation.specs.inside.Search.{State, surplus}
 use Rattle.circulation.specs.Nodes.{size, column, potentials, node-stride}
 use Rattle.network.specs.Net.{net, at}
 use Rattle.circulation.specs.inside.Slackness.{Balanced}
-use Rattle.circulation.specs.Input.{WellFormed}
+use Rattle.network.specs.WellFormed.{WellFormed}
 use Rattle.circulation.proofs.laws.Searches.{solved}
 use Rattle.circulation.proofs.laws.Starts.{first-near, run-start}
 use Rattle.circulation.specs.laws.Columns.{column-length}
@@ -46,7 +46,7 @@ count-need-requires c κs =
     let saturate = c .before .before .before .before .saturate in (
       rw (saturate .kept .1 .0) (start .pre .wf),
       λ i l. first-near (at (potentials (start .args .nodes .now))) (at (saturate .last .1 .0)) (start .pre .wf)
-          (start .pre .feasible) (saturate .ensures) i (omega (arith, saturate .kept .1 .0)),
+          (start .pre .limited) (start .pre .feasible) (saturate .ensures) i (omega (arith, saturate .kept .1 .0)),
     )
 
 loop-holds : tie.Need-loop-holds Inv-loop μ-loop

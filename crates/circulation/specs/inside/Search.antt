@@ -3,7 +3,8 @@
 use Rattle.network.specs.Net.{at, Net, arcs, tail, head, low, high, asks, stands, HardLow, HardHigh}
 use Rattle.network.specs.Sums.{sum-to}
 use Rattle.circulation.specs.inside.Slackness.{pick, inflow, outflow, Ready, Slack, Small, Low}
-use Rattle.circulation.specs.Input.{WellFormed}
+use Rattle.network.specs.WellFormed.{WellFormed}
+use Rattle.circulation.specs.Input.{Limited}
 use mathlib.Core.Path.{_≡_}
 use mathlib.Core.Logic.{_⊎_}
 use mathlib.Core.List.{List}
@@ -13,7 +14,8 @@ use lib.Dec.{eqb}
 use lib.ListN.{length, set}
 use Rattle.network.specs.Packed.{stride, high-none, kink-zero, flow-zero}
 use Rattle.circulation.specs.Nodes.{need-zero}
-use Rattle.circulation.specs.Limits.{most-arcs, rested-limit}
+use Rattle.network.specs.Limits.{most-arcs}
+use Rattle.circulation.specs.Limits.{rested-limit}
 
 -- e is the need of each node
 pub record Need (N : Net) (n : ℕ) (x e : ℕ → ℕ) : Type 0 where
@@ -131,6 +133,7 @@ pub record Grown (N : Net) (s count : ℕ) (p x order via room : List ℕ) : Typ
 -- not risen
 pub record State (N : Net) (p x e : List ℕ) : Type 0 where
   pub wf : WellFormed N (length p)
+  pub limited : Limited N
   pub x-size : length x ≡ arcs N
   pub e-size : length e ≡ length p
   pub p-in : Low (at p)

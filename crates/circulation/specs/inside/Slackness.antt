@@ -1,7 +1,8 @@
 -- Flows and potentials that fit each other, in stored numbers, and what flows in and out at a node.
 use Rattle.network.specs.Net.{at, Net, arcs, tail, head, low, high, stands, asks, HardHigh, HardLow}
 use Rattle.network.specs.Sums.{sum-to}
-use Rattle.circulation.specs.Input.{WellFormed}
+use Rattle.network.specs.WellFormed.{WellFormed}
+use Rattle.circulation.specs.Input.{Limited}
 use mathlib.Core.Path.{_≡_}
 use mathlib.Core.List.{List}
 use mathlib.Core.Bool.{cond}
@@ -50,6 +51,7 @@ Small p = (v : ℕ) → p v ≤ potential-limit
 -- the network with potentials p, flows x and ranks order, of fitting lengths
 pub record Ready (N : Net) (p x order : List ℕ) : Type 0 where
   pub wf : WellFormed N (length p)
+  pub limited : Limited N
   pub x-size : length x ≡ arcs N
   pub order-size : length order ≡ length p
   pub p-in : Small (at p)

@@ -4,7 +4,8 @@ use Rattle.network.specs.Network.{integers, legal, Feasible as NetworkFeasible}
 use Rattle.network.specs.Packed.{arc-at}
 use Rattle.network.specs.laws.Indexed.{all-upto, upto-all}
 use Rattle.network.specs.laws.PackedLegal.{Meets, legal-meets, meets-legal}
-use Rattle.circulation.specs.Input.{WellFormed, Feasible}
+use Rattle.network.specs.WellFormed.{WellFormed}
+use Rattle.circulation.specs.Input.{Feasible}
 use mathlib.Core.Path.{_≡_, _∙_}
 use mathlib.Core.List.{List}
 use Prim.Native.Nat.{ℕ, _-_, _<_}

@@ -4,7 +4,7 @@
 use Rattle.network.specs.Sums.{sum-to}
 use Rattle.network.specs.laws.SumsTo.{sum-to-le, sum-to-lt, sum-to-ge}
 use Rattle.network.specs.Net.{Net, tail, head, kink}
-use Rattle.difference.specs.Input.{WellFormed}
+use Rattle.network.specs.WellFormed.{WellFormed}
 use Rattle.difference.specs.inside.Constraints.{Solution}
 use mathlib.Core.Path.{_≡_}
 use mathlib.Core.Logic.{_⊎_, inl, inr, ⊎-elim}
@@ -14,7 +14,7 @@ use native.Mathlib.Decide.{decLt}
 use native.Mathlib.Omega.{arith}
 use Rattle.difference.proofs.laws.Levels.{sum-ones, upto, upto-above, upto-within, upto-le, upto-mono, lowered, lowered-cases, lowered-meets}
 use Rattle.network.specs.Packed.{kink-zero}
-use Rattle.difference.specs.Limits.{kink-size}
+use Rattle.network.specs.Limits.{kink-size}
 
 -- a solution whose values are small
 pub record Small (N : Net) (n : ℕ) : Type 0 where

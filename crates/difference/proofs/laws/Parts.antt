@@ -1,7 +1,8 @@
 -- What the whole call answers, from what the passes left in the lent part of the slice: the part is the first n values of
 -- what is put back.
 use Rattle.network.specs.Net.{at, Net, meant}
-use Rattle.difference.specs.Input.{WellFormed, Taken}
+use Rattle.network.specs.WellFormed.{WellFormed}
+use Rattle.difference.specs.Input.{Taken}
 use Rattle.difference.specs.inside.Constraints.{Least, None}
 use Rattle.difference.specs.Solutions.{Finding, Lowest, RestKept, Solves, Cleared, Means}
 use Rattle.difference.specs.inside.Steps.{Ran}

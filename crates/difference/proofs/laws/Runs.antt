@@ -4,7 +4,7 @@
 use Rattle.network.specs.Net.{at, Net, tail, head, kink}
 use Rattle.network.specs.Sums.{sum-to}
 use Rattle.network.specs.laws.SumsTo.{sum-to-le, sum-to-lt, sum-to-ge}
-use Rattle.difference.specs.Input.{WellFormed}
+use Rattle.network.specs.WellFormed.{WellFormed}
 use Rattle.difference.specs.inside.Constraints.{AllMet, Solution, Below, Ready, Risen, Grew, Least, None}
 use Rattle.difference.specs.inside.Steps.{Stepped, Swept, Ran}
 use mathlib.Core.Path.{_≡_, sym, _∙_}

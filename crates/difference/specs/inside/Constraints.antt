@@ -6,9 +6,10 @@ use mathlib.Core.List.{List}
 use Prim.Native.Nat.{ℕ, _+_, _-_, _*_, _≤_, _<_}
 use lib.ListN.{length}
 use Rattle.network.specs.Net.{at, Net, arcs, tail, head, kink, HardHigh, HardLow}
-use Rattle.difference.specs.Input.{WellFormed}
+use Rattle.network.specs.WellFormed.{WellFormed}
 use Rattle.network.specs.Packed.{kink-zero}
-use Rattle.difference.specs.Limits.{value-limit, kink-most, kink-size, most-nodes}
+use Rattle.network.specs.Limits.{kink-most, kink-size, most-nodes}
+use Rattle.difference.specs.Limits.{value-limit}
 
 -- the head is at most the kink right of the tail; f is taken at the node that forces, and g at the node that is raised
 abbrev pub MetHigh : Net → ℕ → (ℕ → ℕ) → (ℕ → ℕ) → Type 0

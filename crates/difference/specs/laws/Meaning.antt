@@ -13,7 +13,7 @@ use Rattle.network.specs.Packed.{arc-at}
 use Rattle.network.specs.Net.{at, Net, arcs, tail, head, meant}
 use Rattle.network.specs.laws.Indexed.{all-upto, upto-all}
 use Rattle.network.specs.laws.PackedLegal.{legal-meets, meets-legal}
-use Rattle.difference.specs.Input.{WellFormed}
+use Rattle.network.specs.WellFormed.{WellFormed}
 use Rattle.difference.specs.Solutions.{potentials, Lowest, NoneFeasible}
 use Rattle.difference.specs.inside.Constraints.{AllMet, Solution, Least, None}
 

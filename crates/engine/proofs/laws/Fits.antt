@@ -12,6 +12,7 @@ use Rattle.network.specs.Sums.{all}
 use Rattle.network.specs.Network.{limit, Arc, Network}
 use Rattle.network.specs.Packed.{stride, head-at, kink-at, low-at, high-at, kink-zero, flow-zero, low-none, high-none, low-of, high-of, arc-at, network-of}
 use Rattle.network.specs.Net.{at, net}
+use Rattle.network.specs.WellFormed.{WellFormed}
 use Rattle.network.specs.Integers.{down, up}
 use Rattle.network.specs.laws.Sizes.{size-parts}
 use Rattle.network.specs.laws.Indexed.{upto-all}
@@ -21,36 +22,35 @@ use Rattle.drawing.specs.Arcs.{network}
 use Rattle.drawing.specs.laws.ArcLimits.{low-near, high-near, near, Near, near-parts, network-near}
 use Rattle.arcs.specs.declared.Counts.{Counts}
 use Rattle.arcs.specs.laws.Held.{Holds, proper, size-is, arcs-there, network-is}
-use Rattle.difference.specs.Input as difference
-use Rattle.circulation.specs.Input as circulation
+use Rattle.circulation.specs.Input.{LowIn, HighIn, Limited}
 
 -- a number that is no limit, or stands for a near one
-low-number : (l : ℕ) → T (low-near (low-of l)) → circulation.LowIn l
+low-number : (l : ℕ) → T (low-near (low-of l)) → LowIn l
 unfolding low-of up down
 low-number l t = go (ℕ-discrete l low-none)
   where
-    stored : (z : ℤ) → up z + flow-zero ≡ down z + l → T (low-near (limit z)) → circulation.LowIn l
+    stored : (z : ℤ) → up z + flow-zero ≡ down z + l → T (low-near (limit z)) → LowIn l
     stored (pos zero) e t = record { top = omega arith; soft = λ f. omega arith }
     stored (pos (suc n)) e t = absurd t
     stored (negsuc zero) e t = record { top = omega arith; soft = λ f. omega arith }
     stored (negsuc (suc n)) e t = absurd t
 
-    go : Dec (l ≡ low-none) → circulation.LowIn l
+    go : Dec (l ≡ low-none) → LowIn l
     go (yes e) = record { top = omega arith; soft = λ f. absurd (f e) }
     go (no ne) = stored (pos l -ℤ pos flow-zero) (less-parts l flow-zero) (rw (ne-eqb l low-none ne) at t)
 
 -- the same of a high limit
-high-number : (l : ℕ) → T (high-near (high-of l)) → circulation.HighIn l
+high-number : (l : ℕ) → T (high-near (high-of l)) → HighIn l
 unfolding high-of up down
 high-number l t = go (ℕ-discrete l high-none)
   where
-    stored : (z : ℤ) → up z + flow-zero ≡ down z + l → T (high-near (limit z)) → circulation.HighIn l
+    stored : (z : ℤ) → up z + flow-zero ≡ down z + l → T (high-near (limit z)) → HighIn l
     stored (pos zero) e t = record { bottom = omega arith; soft = λ f. omega arith }
     stored (pos (suc zero)) e t = record { bottom = omega arith; soft = λ f. omega arith }
     stored (pos (suc (suc n))) e t = absurd t
     stored (negsuc n) e t = absurd t
 
-    go : Dec (l ≡ high-none) → circulation.HighIn l
+    go : Dec (l ≡ high-none) → HighIn l
     go (yes e) = record { bottom = omega arith; soft = λ f. absurd (f e) }
     go (no ne) = stored (pos l -ℤ pos flow-zero) (less-parts l flow-zero) (rw (ne-eqb l high-none ne) at t)
 
@@ -92,9 +92,9 @@ module _ {a : List ℕ} {c : Counts} (h : Holds a c) where
     omega (arith, near-at i l .kink, size-parts (pos (at a (stride * i + kink-at)) -ℤ pos kink-zero), less-parts (at a (stride * i + kink-at)) kink-zero),
   )
 
-  -- the solver of differences takes them
-  pub difference-takes : difference.WellFormed (net a (c .arcs)) (c .nodes + 1)
-  difference-takes = record {
+  -- the solvers take them
+  pub takes : WellFormed (net a (c .arcs)) (c .nodes + 1)
+  takes = record {
     room = arcs-there h;
     some = omega arith;
     nodes = omega (arith, nodes-few);
@@ -108,18 +108,12 @@ module _ {a : List ℕ} {c : Counts} (h : Holds a c) where
         };
   }
 
-  -- so does the solver of flows
-  pub circulation-takes : circulation.WellFormed (net a (c .arcs)) (c .nodes + 1)
-  circulation-takes = record {
-    room = arcs-there h;
-    some = omega arith;
-    nodes = omega (arith, nodes-few);
-    few = omega (arith, arcs-few);
-    arc-in = λ i l. record {
-      tail-in = near-at i l .tail;
-      head-in = near-at i l .head;
-      kink-in = omega (arith, kink-in i l .1);
-      low-in = low-number (at a (stride * i + low-at)) (near-at i l .low);
-      high-in = high-number (at a (stride * i + high-at)) (near-at i l .high);
-    };
+  -- and their limits
+  pub limited : Limited (net a (c .arcs))
+  limited = record {
+    each =
+        λ i l. record {
+          low-in = low-number (at a (stride * i + low-at)) (near-at i l .low);
+          high-in = high-number (at a (stride * i + high-at)) (near-at i l .high);
+        };
   }

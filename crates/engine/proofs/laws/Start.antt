@@ -19,7 +19,7 @@ use Rattle.arcs.specs.declared.Counts.{Counts}
 use Rattle.arcs.specs.laws.Held.{Holds}
 use Rattle.engine.specs.inside.Stages.{potentials-to, Started}
 use Rattle.engine.specs.Refusals.{finding-refusal}
-use Rattle.engine.proofs.laws.Fits.{nodes-few, difference-takes, circulation-takes}
+use Rattle.engine.proofs.laws.Fits.{nodes-few, takes, limited}
 use Rattle.engine.proofs.laws.Rooted.{rooted}
 use Rattle.engine.proofs.laws.Potentials.{potential-is, potential-behind}
 
@@ -51,14 +51,15 @@ module _ {a : List ℕ} {c : Counts} (h : Holds a c) (values nodes : List ℕ) (
   -- a start
   pub valid-start : Valid (net a (c .arcs)) (c .nodes + 1) (potentials ready)
   valid-start = record {
-    wf = circulation-takes h;
+    wf = takes h;
+    limited = limited h;
     p-in = λ v.
         ⊎-elim
         (λ (l : v < c .nodes + 1). omega (arith, potential-is (c .nodes + 1) values nodes size v l, g .small v l, nodes-few h))
         (λ (past : c .nodes + 1 ≤ v). omega (arith, potential-behind (c .nodes + 1) values nodes size v past))
         (lt-or-le v (c .nodes + 1));
     feasible =
-        feasible-stored (net a (c .arcs)) (c .nodes + 1) (at (potentials ready)) q (circulation-takes h) end-is
+        feasible-stored (net a (c .arcs)) (c .nodes + 1) (at (potentials ready)) q (takes h) end-is
         (g .lowest .feasible);
     rooted = rooted h;
   }
@@ -70,7 +71,7 @@ pub started : {a : List ℕ} {c : Counts} → Holds a c → (old values nodes : 
 unfolding finding-refusal
 started h old values nodes Solved enough same size g = valid-start h values nodes size (omega arith) (g .2)
 started h old values nodes NoSolution enough same size g = (refl, g .3)
-started h old values nodes Malformed enough same size g = absurd (g .0 (record { wf = difference-takes h; values-room = enough }))
+started h old values nodes Malformed enough same size g = absurd (g .0 (record { wf = takes h; values-room = enough }))
 
 -- the same of the nodes and the number that the code has
 pub started-so : {a : List ℕ} {c : Counts} → Holds a c → (old values nodes nodes′ : List ℕ) (r : Answer) (k : ℕ) → c .nodes + 1 ≤ length old

@@ -10,8 +10,8 @@ settle-requires c κs = search needs
 clear-others-requires : tie.Need-clear-others-requires
 clear-others-requires c κs = search needs
 
-erase-requires : tie.Need-erase-requires
-erase-requires c κs = search needs
+clear-requires : tie.Need-clear-requires
+clear-requires c κs = search needs
 
 same-length : tie.Need-same-length
 same-length c = search needs
@@ -24,7 +24,7 @@ returns c =
     let settle = c .before .before .before .before .before .before .before .before .before .before .settle in
     let clear-others = c .before .before .before .before .before .before .clear-others in (
       settled-same (settle .ensures) (clear-others .ensures .1),
-      (clear-others .ensures .0, c .before .before .erase .ensures),
+      (clear-others .ensures .0, c .before .before .clear .ensures),
     )
 
 pub finish-spec : {M : Type 1} → statement M
@@ -33,7 +33,7 @@ finish-spec =
     (tie.spec
     settle-requires
     clear-others-requires
-    erase-requires
+    clear-requires
     same-length
     same-length-2
     returns)

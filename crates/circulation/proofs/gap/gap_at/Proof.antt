@@ -53,7 +53,7 @@ add-asks c =
       c .before .before .get .ensures,
       c .before .get2 .ensures,
       c .kink-of .ensures,
-      start .pre .0 .wf .arc-in (start .args .i) (start .pre .1) .kink-in,
+      start .pre .0 .wf .arc-in (start .args .i) (start .pre .1) .kink-high,
     )
 
 flow-of-requires : tie.Need-flow-of-requires
@@ -109,7 +109,7 @@ distance-requires c κs =
     let kink-of = c .before .before .before .before .before .before .kink-of in
     sides-small (at (potentials (start .args .nodes .now))) (tail-of .result) (head-of .result) _ (start .pre .0 .p-in)
     (get .ensures) (get2 .ensures) (kink-of .ensures)
-    (start .pre .0 .wf .arc-in (start .args .i) (start .pre .1) .kink-in)
+    (start .pre .0 .wf .arc-in (start .args .i) (start .pre .1) .kink-high)
 
 returns-2 : tie.Need-returns-2
 returns-2 c =
@@ -172,7 +172,7 @@ distance-requires-2 c κs =
     let small =
     sides-small (at (potentials (start .args .nodes .now))) (tail-of .result) (head-of .result) _ (start .pre .0 .p-in)
     (get .ensures) (get2 .ensures) (kink-of .ensures)
-    (start .pre .0 .wf .arc-in (start .args .i) (start .pre .1) .kink-in) in
+    (start .pre .0 .wf .arc-in (start .args .i) (start .pre .1) .kink-high) in
     (small .1, small .0)
 
 returns-4 : tie.Need-returns-4

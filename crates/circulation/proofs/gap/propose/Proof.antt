@@ -10,7 +10,7 @@ use native.Mathlib.Omega.{arith}
 use borrow.Author.Needs.{needs}
 use Rattle.circulation.proofs.gap.propose.Statement.{statement}
 use Rattle.circulation.proofs.gap.propose.Tie as tie
-use Rattle.circulation.specs.Limits.{most-nodes}
+use Rattle.network.specs.Limits.{most-nodes}
 
 abbrev Inv-loop : tie.InvT-loop
 Inv-loop arcs flows nodes chains₀ n left₀ chains left = (length chains ≡ length chains₀) × (n ≤ most-nodes)

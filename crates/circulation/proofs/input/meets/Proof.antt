@@ -1,5 +1,5 @@
 -- `circulation::input::meets` meets its contract: the arcs before i are on no forbidden side.
-use Rattle.circulation.specs.Nodes.{size, potentials}
+use Rattle.circulation.specs.Nodes.{potentials}
 use Rattle.network.specs.Net.{at, net}
 use native.Mathlib.Omega.{arith}
 use Prim.Native.Nat.{ℕ, _≤_, _<_, _-_}
@@ -21,16 +21,16 @@ loop-holds c = (omega arith, below-none _)
 first-flow-requires : tie.Need-first-flow-requires Inv-loop μ-loop
 first-flow-requires c κs =
     let start = c .before .before .before .before in
-    (start .pre .0, (start .pre .1, c .loop-test .taken))
+    (start .pre .0, (start .pre .1 .0, c .loop-test .taken))
 
 returns : tie.Need-returns Inv-loop μ-loop
 returns c =
     let start = c .before .before .before .before .before .before in
     let loop = c .before .before .before .loop in
     let loop-test = c .before .before .loop-test in
-    λ f. none-met (net (start .args .arcs .now) (start .args .m)) (size (start .args .nodes .now))
+    λ f. none-met (net (start .args .arcs .now) (start .args .m))
     (at (potentials (start .args .nodes .now))) (loop .i) (c .before .first-flow .result)
-    (c .before .first-flow .ensures) (start .pre .0 .arc-in (loop .i) (loop-test .taken)) (c .if1 .taken)
+    (c .before .first-flow .ensures) (start .pre .1 .1 .each (loop .i) (loop-test .taken)) (c .if1 .taken)
     (met-of (net (start .args .arcs .now) (start .args .m)) (at (potentials (start .args .nodes .now))) f (loop .i)
     (loop-test .taken))
 
@@ -40,9 +40,9 @@ returns-2 c =
     let loop = c .before .before .before .before .loop in
     let loop-test = c .before .before .before .loop-test in
     let first-flow = c .before .before .first-flow in
-    λ f. not-met (net (start .args .arcs .now) (start .args .m)) (size (start .args .nodes .now))
+    λ f. not-met (net (start .args .arcs .now) (start .args .m))
     (at (potentials (start .args .nodes .now))) (loop .i) (first-flow .result) (first-flow .ensures)
-    (start .pre .0 .arc-in (loop .i) (loop-test .taken)) (c .before .if1 .left) (c .if2 .taken)
+    (start .pre .1 .1 .each (loop .i) (loop-test .taken)) (c .before .if1 .left) (c .if2 .taken)
     (met-of (net (start .args .arcs .now) (start .args .m)) (at (potentials (start .args .nodes .now))) f (loop .i)
     (loop-test .taken))
 
@@ -59,9 +59,9 @@ loop-again c =
     let first-flow = c .before .before .first-flow in (
       omega arith,
       below-more _ _ (loop .inv .1)
-          (met-by (net (start .args .arcs .now) (start .args .m)) (size (start .args .nodes .now))
+          (met-by (net (start .args .arcs .now) (start .args .m))
           (at (potentials (start .args .nodes .now))) (loop .i) (first-flow .result) (first-flow .ensures)
-          (start .pre .0 .arc-in (loop .i) (c .before .before .before .loop-test .taken)) (c .before .if1 .left)
+          (start .pre .1 .1 .each (loop .i) (c .before .before .before .loop-test .taken)) (c .before .if1 .left)
           (c .if2 .left)),
     )
 

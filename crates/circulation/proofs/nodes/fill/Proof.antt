@@ -8,7 +8,7 @@ use borrow.Author.Needs.{needs}
 use Rattle.circulation.proofs.nodes.fill.Statement.{statement}
 use Rattle.circulation.proofs.nodes.fill.Tie as tie
 use Rattle.circulation.specs.Nodes.{node-stride}
-use Rattle.circulation.specs.Limits.{most-nodes}
+use Rattle.network.specs.Limits.{most-nodes}
 
 abbrev Inv-loop : tie.InvT-loop
 Inv-loop nodes₀ k a n v₀ nodes v = Filling k a nodes₀ nodes v × (n ≡ length nodes₀ / node-stride) × (n ≤ most-nodes)

@@ -1,6 +1,6 @@
 -- `circulation::search::extend` meets its contract: the nearest arc is brought onto its kink, and its other end reached.
 use Rattle.network.specs.Net.{net}
-use Rattle.circulation.specs.Input.{WellFormed}
+use Rattle.network.specs.WellFormed.{WellFormed}
 use Rattle.circulation.proofs.laws.Rooms.{far-in, extended}
 use Rattle.circulation.proofs.laws.Trees.{raise-fits, crossing-room}
 use Rattle.circulation.specs.laws.Columns.{column-length}
@@ -66,7 +66,10 @@ room-over-requires c κs =
           (column-length 0 (start .args .nodes .now)
           ∙ sym (ap (λ (k : ℕ). k / node-stride) (raise-reached .ensures .1 .length-same)))
           (start .pre .0 .ready .wf),
-      (choose .ensures .0, start .pre .0 .slack .within (choose .result) (choose .ensures .0)),
+      (
+        choose .ensures .0,
+        (start .pre .0 .slack .within (choose .result) (choose .ensures .0), start .pre .0 .ready .limited),
+      ),
     )
 
 add-reach : tie.Need-add-reach

@@ -69,7 +69,7 @@ loop-holds c =
             column-length 0 (begin .last .0),
             begin .ensures .length-same,
           ))
-          (rw (begin .ensures .potentials-same) (start .pre .0 .wf)) (start .pre .0 .x-size)
+          (rw (begin .ensures .potentials-same) (start .pre .0 .wf)) (start .pre .0 .limited) (start .pre .0 .x-size)
           (rw (begin .ensures .potentials-same) (start .pre .0 .p-in))
           (rw (begin .ensures .potentials-same) (start .pre .0 .slack))
           (omega (arith, column-length 0 (begin .last .0), column-length 2 (begin .last .0)))

@@ -31,7 +31,7 @@ high-of-requires c κs =
 sub-least : tie.Need-sub-least
 sub-least c =
     let start = c .before .before .before .before .before .before .before .before in
-    omega (arith, c .before .before .before .flow-of .ensures, c .high-of .ensures, start .pre .1 .1 .1)
+    omega (arith, c .before .before .before .flow-of .ensures, c .high-of .ensures, start .pre .1 .1 .0 .1)
 
 get-requires : tie.Need-get-requires
 get-requires c κs =
@@ -59,7 +59,7 @@ returns c =
       room-up (c .least .ensures) (sym (tail-of .ensures) ∙ if1 .taken)
           (omega (arith, flow-of .ensures, high-of .ensures))
           (c .before .get .ensures ∙ ap (at (rooms (start .args .nodes .now))) (c .before .before .before .head-of .ensures)),
-      omega (arith, c .least .ensures .0, flow-of .ensures, high-of .ensures, high-top (start .pre .0) (start .pre .1 .0)),
+      omega (arith, c .least .ensures .0, flow-of .ensures, high-of .ensures, high-top (start .pre .1 .1 .1) (start .pre .1 .0)),
     )
 
 low-of-requires : tie.Need-low-of-requires
@@ -70,7 +70,7 @@ low-of-requires c κs =
 sub-least-2 : tie.Need-sub-least-2
 sub-least-2 c =
     let start = c .before .before .before .before .before .before .before in
-    omega (arith, c .before .before .flow-of .ensures, c .low-of .ensures, start .pre .1 .1 .0)
+    omega (arith, c .before .before .flow-of .ensures, c .low-of .ensures, start .pre .1 .1 .0 .0)
 
 get-requires-2 : tie.Need-get-requires-2
 get-requires-2 c κs =
@@ -99,8 +99,8 @@ returns-2 c =
         c .least2 .ensures .0,
         flow-of .ensures,
         low-of .ensures,
-        start .pre .1 .1 .1,
-        high-top (start .pre .0) (start .pre .1 .0),
+        start .pre .1 .1 .0 .1,
+        high-top (start .pre .1 .1 .1) (start .pre .1 .0),
       ),
     )
 

@@ -9,7 +9,7 @@ use Rattle.circulation.proofs.laws.Columns.{apart-start, apart-join}
 use lib.ListN.{length}
 use mathlib.Core.Path.{_∙_}
 use Prim.Native.Nat.{_-_, _/_, _≤_, _<_}
-use Rattle.circulation.specs.Limits.{most-nodes}
+use Rattle.network.specs.Limits.{most-nodes}
 use native.Mathlib.Omega.{arith}
 use borrow.Author.Needs.{needs}
 use Rattle.circulation.proofs.start.count_need.Statement.{statement}

@@ -63,7 +63,7 @@ add-asks c =
       c .get2 .ensures,
       start .pre .1 .0 (tail-of .result),
       c .before .before .kink-of .ensures,
-      start .pre .0 .arc-in (start .args .i) (start .pre .1 .1) .kink-in,
+      start .pre .0 .arc-in (start .args .i) (start .pre .1 .1) .kink-high,
     )
 
 low-of-requires : tie.Need-low-of-requires

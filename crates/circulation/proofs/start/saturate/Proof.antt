@@ -1,7 +1,7 @@
 -- `circulation::start::saturate` meets its contract: the flows before i are the first ones.
 use Rattle.network.specs.Net.{net, at}
 use Rattle.circulation.specs.inside.Slackness.{FilledAt}
-use Rattle.circulation.specs.Nodes.{size, potentials}
+use Rattle.circulation.specs.Nodes.{potentials}
 use Rattle.circulation.proofs.laws.Starts.{store-more, filled-top}
 use Rattle.circulation.proofs.laws.Valids.{first-small}
 use lib.ListN.{length}
@@ -40,9 +40,9 @@ set-flow-requires c κs =
       omega (arith, loop .inv .1, start .pre .wf .few, loop-test .taken),
       omega (
         arith,
-        filled-top (net (start .args .arcs .now) (length (start .args .flows .now))) (size (start .args .nodes .now))
+        filled-top (net (start .args .arcs .now) (length (start .args .flows .now)))
             (at (potentials (start .args .nodes .now))) (loop .i) (c .before .first-flow .result)
-            (start .pre .wf .arc-in (loop .i) (omega (arith, loop .inv .1, loop-test .taken))) (c .before .first-flow .ensures),
+            (start .pre .limited .each (loop .i) (omega (arith, loop .inv .1, loop-test .taken))) (c .before .first-flow .ensures),
       ),
     )
 

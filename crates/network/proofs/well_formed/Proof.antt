@@ -1,9 +1,9 @@
--- `difference::form::well_formed` meets its contract. Each test is a field of `WellFormed`.
+-- `network::well_formed` meets its contract. Each test is a field of `WellFormed`.
 use Rattle.network.specs.laws.TestedAnswers.{tested-map}
 use native.Mathlib.Omega.{arith}
 use borrow.Author.Needs.{needs}
-use Rattle.difference.proofs.form.well_formed.Statement.{statement}
-use Rattle.difference.proofs.form.well_formed.Tie as tie
+use Rattle.network.proofs.well_formed.Statement.{statement}
+use Rattle.network.proofs.well_formed.Tie as tie
 
 returns : tie.Need-returns
 returns c = search needs

@@ -1,14 +1,14 @@
--- `difference::form::arcs_ok` meets its contract. The loop has seen only arcs that are in order.
+-- `network::form::arcs_ok` meets its contract. The loop has seen only arcs that are in order.
 use Rattle.network.specs.Net.{net}
-use Rattle.difference.specs.Input.{ArcIn}
+use Rattle.network.specs.WellFormed.{ArcIn}
 use Rattle.network.specs.laws.TestedAnswers.{tested-yes, tested-no}
 use borrow.Author.Tests.{not-true, not-false}
 use borrow.Author.Count.{below-none, below-more}
 use native.Mathlib.Omega.{arith}
 use Prim.Native.Nat.{ℕ, _≤_, _<_, _-_}
 use borrow.Author.Needs.{needs}
-use Rattle.difference.proofs.form.arcs_ok.Statement.{statement}
-use Rattle.difference.proofs.form.arcs_ok.Tie as tie
+use Rattle.network.proofs.form.arcs_ok.Statement.{statement}
+use Rattle.network.proofs.form.arcs_ok.Tie as tie
 
 abbrev Inv-loop : tie.InvT-loop
 Inv-loop arcs count nodes i₀ i = (i ≤ count) × ((k : ℕ) → k < i → ArcIn (net arcs count) nodes k)
