@@ -52,6 +52,12 @@ pub record Hangs (N : Net) (g v : ℕ) : Type 0 where
 pub record Rooted (N : Net) (n : ℕ) : Type 0 where
   pub hangs : (v : ℕ) → v < n - 1 → Hangs N (n - 1) v
 
+-- arcs between n nodes that the method takes
+pub record ArcsTaken (N : Net) (n : ℕ) : Type 0 where
+  pub wf : WellFormed N n
+  pub limited : Limited N
+  pub rooted : Rooted N n
+
 -- an input that the method takes
 pub record Valid (N : Net) (n : ℕ) (p : List ℕ) : Type 0 where
   pub wf : WellFormed N n

@@ -16,7 +16,7 @@ ghost use mathlib.Core.Path.{_≡_};
 ghost use Prim.Native.Nat.{_+_, _*_, _≤_, _<_};
 ghost use lib.ListN.{length};
 ghost use Rattle.network.specs.WellFormed.{WellFormed};
-ghost use Rattle.circulation.specs.Input.{Feasible, First, HangsBy, HighIn, Limited, LimitsIn, LowIn, Rooted, Valid};
+ghost use Rattle.circulation.specs.Input.{ArcsTaken, Feasible, First, HangsBy, HighIn, Limited, LimitsIn, LowIn, Rooted, Valid};
 ghost use Rattle.circulation.specs.inside.Steps.{Hanger};
 ghost use Rattle.circulation.specs.inside.Slackness.{Small};
 ghost use Rattle.network.specs.Tested.{Tested};
@@ -30,19 +30,26 @@ pub fn valid(arcs: &[u32], nodes: &[u32], m: usize) -> bool
     ensures { λ r. ⌜ Tested (Valid (net (now (arcs .entry)) m) (size (now (nodes .entry))) (potentials (now (nodes .entry)))) r ⌝ }
 {
     let n = count_of(nodes);
+    if !arcs_taken(arcs, m, n) {
+        return false;
+    }
+    if !low_start(nodes, n) {
+        return false;
+    }
+    meets(arcs, nodes, m)
+}
+
+// Whether m arcs between n nodes are ones that the method takes.
+pub fn arcs_taken(arcs: &[u32], m: usize, n: usize) -> bool
+    ensures { λ r. ⌜ Tested (ArcsTaken (net (now (arcs .entry)) m) n) r ⌝ }
+{
     if !well_formed(arcs, m, n) {
         return false;
     }
     if !limited(arcs, m) {
         return false;
     }
-    if !low_start(nodes, n) {
-        return false;
-    }
-    if !rooted(arcs, n, m) {
-        return false;
-    }
-    meets(arcs, nodes, m)
+    rooted(arcs, n, m)
 }
 
 // Whether the limits of every arc are small.

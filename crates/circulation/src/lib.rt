@@ -16,6 +16,7 @@ mod start;
 use crate::augment::augment;
 use crate::finish::finish;
 use crate::hints::link_all;
+use crate::input::arcs_taken;
 use crate::input::valid;
 use crate::layout::NODE_STRIDE;
 use crate::nodes::count_of;
@@ -30,7 +31,8 @@ ghost use lib.ListN.{length};
 ghost use Rattle.circulation.specs.inside.Finish.{Zeroed};
 ghost use Rattle.circulation.specs.inside.Steps.{Ends};
 ghost use Rattle.circulation.specs.Solutions.{finding, Means, Solution};
-ghost use Rattle.circulation.specs.Input.{Valid};
+ghost use Rattle.circulation.specs.Input.{ArcsTaken, Valid};
+ghost use Rattle.network.specs.Tested.{Tested};
 ghost use Rattle.network.specs.Net.{at, net};
 ghost use Rattle.circulation.specs.Nodes.{«node-stride», potentials, size};
 
@@ -44,6 +46,13 @@ pub enum Answer {
 enum Found {
     At(usize),
     Nothing,
+}
+
+// Whether solve takes the first arcs, so many, between so many nodes, where the potentials to start from are feasible.
+pub fn takes(arcs: &[u32], count: usize, nodes: usize) -> bool
+    ensures { λ r. ⌜ Tested (ArcsTaken (net (now (arcs .entry)) count) nodes) r ⌝ }
+{
+    arcs_taken(arcs, count, nodes)
 }
 
 // Flows that balance, and the leftmost potentials of least cost, from the potentials in nodes; its other numbers are room

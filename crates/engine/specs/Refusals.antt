@@ -1,6 +1,6 @@
 -- The refusals that drawing adds to reading, by document 01's numbers.
 use Prim.Native.Nat.{ℕ}
-use Rattle.difference.specs.Solutions.{Finding}
+use Rattle.leftmost.specs.Solutions.{Finding}
 
 -- no drawing exists
 abbrev pub none-exists : ℕ
@@ -14,8 +14,8 @@ total-passes = 9
 abbrev pub total-limit : ℕ
 total-limit = 16777215
 
--- the refusal that a finding about a sheet's hard constraints gives, 0 where it gives none: no feasible potentials, no
--- drawing. (A sheet's arcs are never malformed.)
+-- the refusal that a finding about a sheet's arcs gives, 0 where it gives none: no feasible potentials, no drawing. (A sheet's
+-- arcs are never malformed.)
 unfoldable pub finding-refusal : Finding → ℕ
 finding-refusal Finding.solved = 0
 finding-refusal Finding.none = none-exists

@@ -9,5 +9,5 @@ pub const MAX_GROUNDED: usize = MAX_NODES as usize + 1;
 // The numbers of so many nodes.
 pub const MAX_NODE_NUMBERS: usize = NODE_STRIDE * MAX_GROUNDED;
 
-// The hints for so many nodes and the arcs of a sheet.
-pub const MAX_HINTS: usize = 1 + 3 * MAX_GROUNDED + 2 * MAX_ARCS;
+// The room to solve in, with which solving is fast, for so many nodes and the arcs of a sheet.
+pub const MAX_ROOM: usize = 1 + 3 * MAX_GROUNDED + 2 * MAX_ARCS;

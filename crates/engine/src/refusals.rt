@@ -1,10 +1,10 @@
 // Refusals of a good sheet.
 use crate::Answer;
-use difference::Answer as Finding;
 use leb128::Refusal;
+use leftmost::Answer as Finding;
 ghost use mathlib.Core.Path.{_≡_};
 ghost use Rattle.leb128.specs.Source.{refusal};
-ghost use Rattle.difference.specs.Solutions.{finding};
+ghost use Rattle.leftmost.specs.Solutions.{finding};
 ghost use Rattle.engine.specs.Refusals.{«finding-refusal»};
 
 // No drawing exists.
@@ -20,7 +20,7 @@ pub fn refused(number: u8) -> Answer
     })
 }
 
-// The refusal's number that a finding about a sheet's hard constraints gives, 0 where it gives none.
+// The refusal's number that a finding about a sheet's arcs gives, 0 where it gives none.
 pub fn finding_refusal(found: Finding) -> u8
     ensures { λ r. ⌜ r ≡ finding-refusal (finding found) ⌝ }
 {

@@ -39,7 +39,7 @@ module _ (N : Net) (x₀ nodes₀ chains₀ x nodes chains y other hints : List 
   one-finding malformed malformed m k = refl
 
   -- the nodes of two solutions
-  solved-nodes : Cleared nodes₀ nodes chains₀ chains → Cleared nodes₀ other chains₀ hints
+  pub solved-nodes : Cleared nodes₀ nodes chains₀ chains → Cleared nodes₀ other chains₀ hints
       → Solution N (size nodes₀) (at x) (at (potentials nodes)) → Solution N (size nodes₀) (at y) (at (potentials other)) → nodes ≡ other
   solved-nodes c d s t =
       ext-getD 0 nodes other (c .nodes-size ∙ sym (d .nodes-size)) (λ i l. each i (decLt i (node-stride * size nodes₀)))

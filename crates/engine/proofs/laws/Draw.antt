@@ -1,4 +1,4 @@
--- The contract's cases: refusals of a good sheet, what the solver of flows leaves, and the refusals of reading.
+-- The contract's cases: refusals of a good sheet, what the solver leaves, and the refusals of reading.
 use Prim.Native.Nat.{ℕ, zero, suc, _+_, _*_, _/_, _≤_, _<_}
 use mathlib.Core.Path.{_≡_, refl, sym, subst}
 use mathlib.Core.List.{List}
@@ -15,22 +15,21 @@ use Rattle.network.specs.Network.{Network, Feasible, integers}
 use Rattle.network.specs.Net.{at, net, meant}
 use Rattle.drawing.specs.Sheet.{sheet-of}
 use Rattle.drawing.specs.laws.SameDrawings.{drawing-feasible}
-use Rattle.difference.specs.Solutions.{NoneFeasible}
 use Rattle.circulation.specs.Nodes.{node-stride, potentials}
-use Rattle.circulation.specs.Input.{Valid}
-use Rattle.circulation.specs.Solutions.{Solution, finding, Means}
-use Rattle.circulation.specs.declared.Answer.the-variants.{Solved, Malformed}
-use Rattle.circulation.specs.declared.Answer as circulation
+use Rattle.circulation.specs.Solutions.{Solution}
+use Rattle.leftmost.specs.Solutions.{Taken, SomeFeasible, finding, Means}
+use Rattle.leftmost.specs.declared.Answer.the-variants.{Solved, NoSolution, Malformed}
+use Rattle.leftmost.specs.declared.Answer as leftmost
 use Rattle.arcs.specs.declared.Counts.{Counts}
 use Rattle.arcs.specs.laws.Loaded.{LoadedSheet}
-use Rattle.arcs.specs.laws.Held.{size-is, loaded-holds, holds-reads}
-use Rattle.engine.specs.Refusals.{none-exists}
+use Rattle.arcs.specs.laws.Held.{Holds, size-is, loaded-holds, holds-reads}
+use Rattle.engine.specs.Refusals.{none-exists, finding-refusal}
 use Rattle.engine.specs.Draws.{Drawn, result, DrawsSheet, Draws}
 use Rattle.engine.specs.Draws.Refuses.{few-places, few-numbers, none}
-use Rattle.engine.specs.inside.Stages.{DrawsHeld, Started, Settled}
+use Rattle.engine.specs.inside.Stages.{DrawsHeld, Settled}
 use Rattle.engine.specs.declared.Answer.{Answer}
 use Rattle.engine.specs.declared.Answer.the-variants.{Refused}
-use Rattle.engine.proofs.laws.Finish.{meant-is}
+use Rattle.engine.proofs.laws.Fits.{meant-is, taken}
 
 module _ {a : List ℕ} {c : Counts} (p : List ℕ) (y : List ℤ) where
   -- too few places
@@ -51,47 +50,55 @@ module _ {a : List ℕ} {c : Counts} (p : List ℕ) (y : List ℤ) where
 
   -- no drawing
   pub none-drawn : {r : Answer} → r ≡ Refused (refusal none-exists 0) → c .nodes ≤ length p → c .arcs ≤ length y
-      → NoneFeasible (meant (net a (c .arcs)) (c .nodes + 1)) → DrawsHeld a c p y p y (result r)
+      → (SomeFeasible (meant (net a (c .arcs)) (c .nodes + 1)) → ⊥) → DrawsHeld a c p y p y (result r)
   unfolding result
   none-drawn e i j f h =
       subst (λ (r : Answer). DrawsSheet (sheet-of (h .numbers)) p y p y (result r)) (sym e) (
         none (record { nodes = omega (arith, h .nodes-are); numbers = omega (arith, size-is h) })
-            (λ q d. f q (subst (λ (N : Network). Feasible N (integers q)) (sym (meant-is h)) (drawing-feasible (sheet-of (h .numbers)) q d))),
+            (λ q d. f (record {
+              start = q;
+              feasible =
+                  subst (λ (N : Network). Feasible N (integers q)) (sym (meant-is h))
+                  (drawing-feasible (sheet-of (h .numbers)) q d);
+            })),
         refl,
         (refl, refl),
       )
 
--- what the solver of flows leaves, from a start: it is never malformed
-pub record Solved-from (a : List ℕ) (c : Counts) (x₀ nodes₀ x nodes : List ℕ) : Type 0 where
-  pub settled : Settled a c x nodes
-  pub flows-size : length x ≡ length x₀
-  pub nodes-size : length nodes ≡ length nodes₀
+-- what solving a sheet's arcs leaves, by the refusal's number, 0 where nothing is refused: a solution, or no potentials are
+-- feasible
+abbrev pub Found : (a : List ℕ) (c : Counts) (x nodes : List ℕ) → ℕ → Type 0
+Found a c x nodes zero = Settled a c x nodes
+Found a c x nodes (suc k) = (suc k ≡ none-exists) × (SomeFeasible (meant (net a (c .arcs)) (c .nodes + 1)) → ⊥)
 
--- by its contract
-pub solved-from : {a : List ℕ} {c : Counts} (x₀ nodes₀ chains₀ x nodes chains : List ℕ) (r : circulation.Answer) → length x₀ ≡ c .arcs
-    → length nodes₀ ≡ node-stride * (c .nodes + 1) → Valid (net a (c .arcs)) (c .nodes + 1) (potentials nodes₀)
-    → Means (net a (length x₀)) x₀ nodes₀ chains₀ x nodes chains (finding r) → Solved-from a c x₀ nodes₀ x nodes
-solved-from {a} {c} x₀ nodes₀ chains₀ x nodes chains r xs ns v g =
-    go r (subst (λ (m : ℕ). Means (net a m) x₀ nodes₀ chains₀ x nodes chains (finding r)) xs g)
+-- by its contract: it is never malformed
+pub found : {a : List ℕ} {c : Counts} → Holds a c → (x₀ nodes₀ room₀ x nodes room : List ℕ) (r : leftmost.Answer) (k : ℕ)
+    → length x₀ ≡ c .arcs → length nodes₀ ≡ node-stride * (c .nodes + 1) → c .nodes + 1 ≤ length room₀
+    → Means (net a (length x₀)) x₀ nodes₀ room₀ x nodes room (finding r) → k ≡ finding-refusal (finding r) → Found a c x nodes k
+unfolding finding-refusal
+found {a} {c} h x₀ nodes₀ room₀ x nodes room r k xs ns enough m e =
+    subst (Found a c x nodes) (sym e) (go r (subst (λ (k : ℕ). Means (net a k) x₀ nodes₀ room₀ x nodes room (finding r)) xs m))
   where
     count : length nodes₀ / node-stride ≡ c .nodes + 1
     count = omega arith
 
-    go : (r : circulation.Answer) → Means (net a (c .arcs)) x₀ nodes₀ chains₀ x nodes chains (finding r) → Solved-from a c x₀ nodes₀ x nodes
-    go Solved g = record { settled = subst (λ (n : ℕ). Solution (net a (c .arcs)) n (at x) (at (potentials nodes))) count (g .3); flows-size = g .1; nodes-size = g .2 .nodes-size }
-    go Malformed g = absurd (g .0 (subst (λ (n : ℕ). Valid (net a (c .arcs)) n (potentials nodes₀)) (sym count) v))
+    go : (r : leftmost.Answer) → Means (net a (c .arcs)) x₀ nodes₀ room₀ x nodes room (finding r)
+        → Found a c x nodes (finding-refusal (finding r))
+    go Solved m = subst (λ (n : ℕ). Solution (net a (c .arcs)) n (at x) (at (potentials nodes))) count (m .4)
+    go NoSolution m = (refl, subst (λ (n : ℕ). SomeFeasible (meant (net a (c .arcs)) n) → ⊥) count (m .1))
+    go Malformed m =
+        absurd (m .0 (subst (λ (n : ℕ). Taken (net a (c .arcs)) n (length room₀)) (sym count) (taken h (length room₀) enough)))
 
--- where the start gives a refusal's number, it is 8 and nothing is feasible
-pub not-started : (a : List ℕ) (m n : ℕ) (nodes : List ℕ) (k : ℕ) → Started a m n nodes k → (k ≡ 0 → ⊥)
-    → (k ≡ none-exists) × NoneFeasible (meant (net a m) n)
-not-started a m n nodes zero g e = absurd (e refl)
-not-started a m n nodes (suc k) g e = g
+-- where it gives a refusal's number, that is 8 and nothing is feasible
+pub none-found : (a : List ℕ) (c : Counts) (x nodes : List ℕ) (k : ℕ) → Found a c x nodes k → (k ≡ 0 → ⊥)
+    → (k ≡ none-exists) × (SomeFeasible (meant (net a (c .arcs)) (c .nodes + 1)) → ⊥)
+none-found a c x nodes zero g e = absurd (e refl)
+none-found a c x nodes (suc k) g e = g
 
--- where it gives none, it is a start
-pub is-started : (a : List ℕ) (m n : ℕ) (nodes : List ℕ) (k : ℕ) → Started a m n nodes k → k ≡ 0
-    → Valid (net a m) n (potentials nodes)
-is-started a m n nodes zero g e = g
-is-started a m n nodes (suc k) g e = absurd (omega arith)
+-- where it gives none, there is a solution
+pub is-settled : (a : List ℕ) (c : Counts) (x nodes : List ℕ) (k : ℕ) → Found a c x nodes k → k ≡ 0 → Settled a c x nodes
+is-settled a c x nodes zero g e = g
+is-settled a c x nodes (suc k) g e = absurd (omega arith)
 
 -- the refusal of reading
 pub refused-drawn : (bytes p : List ℕ) (y : List ℤ) {r : Refusal} → read-sheet bytes ≡ Result.refused r

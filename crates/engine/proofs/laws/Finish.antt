@@ -12,8 +12,8 @@ use lib.Seq.{take-at, drop-at, ext-getD}
 use Rattle.network.specs.Sums.{upto}
 use Rattle.network.specs.Network.{Network, integers, LeftmostLeast, total}
 use Rattle.network.specs.Flows.{rules, complementary}
-use Rattle.network.specs.Packed.{stride, network-of}
-use Rattle.network.specs.Net.{at, net, meant}
+use Rattle.network.specs.Packed.{stride}
+use Rattle.network.specs.Net.{at}
 use Rattle.network.specs.Integers.{down, up}
 use Rattle.network.specs.laws.Indexed.{upto-length, upto-in}
 use Rattle.network.specs.laws.PackedLegal.{less-parts}
@@ -34,20 +34,13 @@ use Rattle.arcs.specs.Words.{u32-most}
 use Rattle.arcs.specs.Lengths.{lengths-of}
 use Rattle.arcs.specs.laws.SheetLengths.{drawing-total}
 use Rattle.arcs.specs.declared.Counts.{Counts}
-use Rattle.arcs.specs.laws.Held.{Holds, proper, size-is, network-is, edges-front}
+use Rattle.arcs.specs.laws.Held.{Holds, proper, size-is, edges-front}
 use Rattle.checker.proofs.laws.Parts.{less-none}
 use Rattle.engine.specs.Draws.{Returns}
+use Rattle.engine.proofs.laws.Fits.{meant-is}
 use Rattle.engine.specs.inside.Filling.{filled}
 use Rattle.engine.specs.inside.Results.{place-at, number-at, Places, Flows}
 use Rattle.engine.specs.inside.Stages.{Settled}
-
--- the network that the solvers read is the sheet's
-pub meant-is : {a : List ℕ} {c : Counts} (h : Holds a c)
-    → meant (net a (c .arcs)) (c .nodes + 1) ≡ network (sheet-of (h .numbers))
-meant-is {a} {c} h = ap (λ (k : ℕ). network-of a k (c .arcs)) less-one ∙ network-is h
-  where
-    less-one : c .nodes + 1 - 1 ≡ c .nodes
-    less-one = omega arith
 
 -- a natural number that is a difference
 natural-difference : (k b z : ℕ) → pos k ≡ pos b -ℤ pos z → b ≡ z + k

@@ -1,6 +1,6 @@
--- The solvers take a sheet's packed arcs: their numbers are within the limits, and every node hangs on ground.
-use Prim.Native.Nat.{ℕ, zero, suc, _+_, _*_, _≤_, _<_}
-use mathlib.Core.Path.{_≡_, sym, subst}
+-- The solver takes a sheet's packed arcs: their numbers are within the limits, and every node hangs on ground.
+use Prim.Native.Nat.{ℕ, zero, suc, _+_, _-_, _*_, _≤_, _<_}
+use mathlib.Core.Path.{_≡_, sym, _∙_, ap, subst}
 use mathlib.Core.Bool.{Bool}
 use mathlib.Core.List.{List}
 use native.Mathlib.Decide.{ℕ-discrete}
@@ -10,19 +10,23 @@ use lib.Dec.{T}
 use lib.IntN.{ℤ, pos, negsuc, _-ℤ_}
 use Rattle.network.specs.Sums.{all}
 use Rattle.network.specs.Network.{limit, Arc, Network}
-use Rattle.network.specs.Packed.{stride, head-at, kink-at, low-at, high-at, kink-zero, flow-zero, low-none, high-none, low-of, high-of, arc-at, network-of}
-use Rattle.network.specs.Net.{at, net}
+use Rattle.network.specs.Packed.{stride, kink-at, low-at, high-at, kink-zero, flow-zero, low-none, high-none, low-of, high-of, arc-at, network-of}
+use Rattle.network.specs.Net.{at, net, meant}
 use Rattle.network.specs.WellFormed.{WellFormed}
 use Rattle.network.specs.Integers.{down, up}
 use Rattle.network.specs.laws.Sizes.{size-parts}
 use Rattle.network.specs.laws.Indexed.{upto-all}
 use Rattle.network.specs.laws.PackedLegal.{less-parts}
+use Rattle.network.specs.laws.Hanging.{Hangs}
+use Rattle.drawing.specs.laws.Hanging.{sheet-hangs}
 use Rattle.drawing.specs.Sheet.{sheet-of}
 use Rattle.drawing.specs.Arcs.{network}
 use Rattle.drawing.specs.laws.ArcLimits.{low-near, high-near, near, Near, near-parts, network-near}
 use Rattle.arcs.specs.declared.Counts.{Counts}
 use Rattle.arcs.specs.laws.Held.{Holds, proper, size-is, arcs-there, network-is}
 use Rattle.circulation.specs.Input.{LowIn, HighIn, Limited}
+use Rattle.leftmost.specs.Solutions.{Taken}
+use Rattle.leftmost.specs.laws.Hanging.{hangs-rooted}
 
 -- a number that is no limit, or stands for a near one
 low-number : (l : ℕ) → T (low-near (low-of l)) → LowIn l
@@ -54,6 +58,14 @@ high-number l t = go (ℕ-discrete l high-none)
     go (yes e) = record { bottom = omega arith; soft = λ f. absurd (f e) }
     go (no ne) = stored (pos l -ℤ pos flow-zero) (less-parts l flow-zero) (rw (ne-eqb l high-none ne) at t)
 
+-- the network that the solver reads is the sheet's
+pub meant-is : {a : List ℕ} {c : Counts} (h : Holds a c)
+    → meant (net a (c .arcs)) (c .nodes + 1) ≡ network (sheet-of (h .numbers))
+meant-is {a} {c} h = ap (λ (k : ℕ). network-of a k (c .arcs)) less-one ∙ network-is h
+  where
+    less-one : c .nodes + 1 - 1 ≡ c .nodes
+    less-one = omega arith
+
 module _ {a : List ℕ} {c : Counts} (h : Holds a c) where
   -- few nodes
   pub nodes-few : c .nodes ≤ 256
@@ -81,10 +93,6 @@ module _ {a : List ℕ} {c : Counts} (h : Holds a c) where
       near-parts (c .nodes + 1) (arc-at a i)
       (all-held (λ N. near (N .nodes + 1)) (network-near (h .numbers) (proper h)) i l)
 
-  -- the head of an arc is a node or ground
-  pub head-in : (i : ℕ) → i < c .arcs → at a (stride * i + head-at) < c .nodes + 1
-  head-in i l = near-at i l .head
-
   -- the kink of an arc
   kink-in : (i : ℕ) → i < c .arcs → (1 ≤ at a (stride * i + kink-at)) × (at a (stride * i + kink-at) < 2 * kink-zero)
   kink-in i l = (
@@ -92,9 +100,9 @@ module _ {a : List ℕ} {c : Counts} (h : Holds a c) where
     omega (arith, near-at i l .kink, size-parts (pos (at a (stride * i + kink-at)) -ℤ pos kink-zero), less-parts (at a (stride * i + kink-at)) kink-zero),
   )
 
-  -- the solvers take them
-  pub takes : WellFormed (net a (c .arcs)) (c .nodes + 1)
-  takes = record {
+  -- the packed arcs are well formed
+  well-formed : WellFormed (net a (c .arcs)) (c .nodes + 1)
+  well-formed = record {
     room = arcs-there h;
     some = omega arith;
     nodes = omega (arith, nodes-few);
@@ -108,8 +116,8 @@ module _ {a : List ℕ} {c : Counts} (h : Holds a c) where
         };
   }
 
-  -- and their limits
-  pub limited : Limited (net a (c .arcs))
+  -- their limits are small
+  limited : Limited (net a (c .arcs))
   limited = record {
     each =
         λ i l. record {
@@ -117,3 +125,20 @@ module _ {a : List ℕ} {c : Counts} (h : Holds a c) where
           high-in = high-number (at a (stride * i + high-at)) (near-at i l .high);
         };
   }
+
+  -- every node hangs on ground
+  hangs : Hangs (meant (net a (c .arcs)) (c .nodes + 1))
+  hangs = subst Hangs (sym (meant-is h)) (sheet-hangs (h .numbers))
+
+  -- so the arcs are taken, where there is a number of room for each node
+  pub taken : (room : ℕ) → c .nodes + 1 ≤ room → Taken (net a (c .arcs)) (c .nodes + 1) room
+  taken room enough =
+      record {
+        arcs-in =
+            record {
+              wf = well-formed;
+              limited = limited;
+              rooted = hangs-rooted (net a (c .arcs)) (c .nodes + 1) hangs (λ i l. near-at i l .head);
+            };
+        room-in = enough;
+      }

@@ -1,18 +1,14 @@
 -- What holds between the stages of drawing a sheet's packed arcs.
-use Prim.Native.Nat.{ℕ, zero, suc, _+_, _*_, _≤_}
+use Prim.Native.Nat.{ℕ, _+_, _*_, _≤_}
 use mathlib.Core.Path.{_≡_}
 use mathlib.Core.List.{List}
 use lib.IntN.{ℤ}
-use lib.ListN.{set}
-use Rattle.network.specs.Net.{at, net, meant}
-use Rattle.difference.specs.Solutions.{NoneFeasible}
+use Rattle.network.specs.Net.{at, net}
 use Rattle.circulation.specs.Nodes.{node-stride, potentials}
-use Rattle.circulation.specs.Input.{Valid}
 use Rattle.circulation.specs.Solutions.{Solution}
 use Rattle.drawing.specs.Sheet.{sheet-of}
 use Rattle.arcs.specs.declared.Counts.{Counts}
 use Rattle.arcs.specs.laws.Held.{Holds}
-use Rattle.engine.specs.Refusals.{none-exists}
 use Rattle.engine.specs.Draws.{Drawn, Returns, DrawsSheet}
 
 -- the contract of drawing, for the sheet whose packed arcs are held
@@ -25,16 +21,6 @@ pub record Within (c : Counts) (flows nodes places list : ℕ) : Type 0 where
   pub nodes-are : nodes ≡ node-stride * (c .nodes + 1)
   pub places-enough : c .nodes ≤ places
   pub list-enough : c .arcs ≤ list
-
--- the nodes with the first n values as potentials
-unfoldable pub potentials-to : ℕ → List ℕ → List ℕ → List ℕ
-potentials-to zero values nodes = nodes
-potentials-to (suc n) values nodes = set (potentials-to n values nodes) (node-stride * n) (at values n)
-
--- feasible potentials stand in the nodes, or there are none, by the refusal's number, 0 where nothing is refused
-abbrev pub Started : (a : List ℕ) (count n : ℕ) (nodes : List ℕ) → ℕ → Type 0
-Started a count n nodes zero = Valid (net a count) n (potentials nodes)
-Started a count n nodes (suc k) = (suc k ≡ none-exists) × NoneFeasible (meant (net a count) n)
 
 -- flows and nodes are what the solver leaves
 abbrev pub Settled : (a : List ℕ) (c : Counts) (flows nodes : List ℕ) → Type 0

@@ -1,6 +1,6 @@
 -- `engine::refusals::finding_refusal` meets its contract, by the cases of the answer.
-use Rattle.difference.specs.declared.Answer.{Answer}
-use Rattle.difference.specs.Solutions.{finding}
+use Rattle.leftmost.specs.declared.Answer.{Answer}
+use Rattle.leftmost.specs.Solutions.{finding}
 use Rattle.engine.specs.Refusals.{finding-refusal}
 use mathlib.Core.Path.{sym, ap}
 use borrow.Author.Needs.{needs}

@@ -1,33 +1,15 @@
--- `engine::stages::draw_within` meets its contract: start, flows and the writing, one after the other.
-use Prim.Native.Nat.{ℕ, _+_}
+-- `engine::stages::draw_within` meets its contract: solving and the writing, one after the other.
+use Prim.Native.Nat.{ℕ}
 use mathlib.Core.Path.{_∙_, ap}
+use native.Mathlib.Omega.{arith}
 use Rattle.leb128.specs.Source.{refusal}
 use Rattle.engine.specs.declared.Answer.the-variants.{Refused}
 use Rattle.engine.specs.Draws.{result}
-use Rattle.engine.proofs.laws.Draw.{none-drawn, not-started, is-started, solved-from}
+use Rattle.engine.proofs.laws.Fits.{nodes-few}
+use Rattle.engine.proofs.laws.Draw.{none-drawn, found, none-found, is-settled}
 use borrow.Author.Needs.{needs}
 use Rattle.engine.proofs.stages.draw_within.Statement.{statement}
 use Rattle.engine.proofs.stages.draw_within.Tie as tie
-
-start-requires : tie.Need-start-requires
-start-requires c κs = search needs
-
-refused-requires : tie.Need-refused-requires
-refused-requires c κs = search needs
-
-same-length : tie.Need-same-length
-same-length c = search needs
-
-returns : tie.Need-returns
-returns c =
-    let start = c .before .before .before .before .start in
-    let none = not-started _ _ _ (start .last .1 .1 .0) (start .result) (start .ensures) (c .before .if1 .taken) in
-    none-drawn (c .before .before .before .before .before .before .before .before .before .before .args .places .now)
-    (c .before .before .before .before .before .before .before .before .before .before .args .list .now)
-    (c .refused .ensures ∙ ap (λ (k : ℕ). Refused (refusal k 0)) (none .0))
-    (c .before .before .before .before .before .before .before .before .before .before .pre .1 .places-enough)
-    (c .before .before .before .before .before .before .before .before .before .before .pre .1 .list-enough)
-    (none .1)
 
 slice-aggregate-solve : tie.Need-slice-aggregate-solve
 slice-aggregate-solve c = search needs
@@ -35,32 +17,55 @@ slice-aggregate-solve c = search needs
 solve-requires : tie.Need-solve-requires
 solve-requires c κs = search needs
 
-finish-requires : tie.Need-finish-requires
-finish-requires c κs =
-    let entry = c .before .before .before .before .before .before .before .before .before .before .before .before .before .before .before .before .before .before .before .before .before .before in
-    let start = c .before .before .before .before .before .before .before .before .before .before .before .before .before .before .before .before .start in
-    let if1 = c .before .before .before .before .before .before .before .before .before .before .before .before .before .if1 in
-    let solve = c .before .before .before .before .before .before .before .before .before .solve in
-    let solved =
-    solved-from {c = entry .args .counts} (entry .args .flows .now) (start .last .1 .1 .0) _ _ _ _ (solve .result)
-    (entry .pre .1 .flows-are) (start .kept .1 .1 .0 ∙ entry .pre .1 .nodes-are)
-    (is-started (entry .args .arcs .now) (entry .args .counts .arcs) (entry .args .counts .nodes + 1)
-    (start .last .1 .1 .0) (start .result) (start .ensures) (if1 .left))
-    (solve .ensures) in (
-      entry .pre .0,
-      (
-        record {
-          flows-are = solved .flows-size ∙ entry .pre .1 .flows-are;
-          nodes-are = solved .nodes-size ∙ (start .kept .1 .1 .0 ∙ entry .pre .1 .nodes-are);
-          places-enough = entry .pre .1 .places-enough;
-          list-enough = entry .pre .1 .list-enough;
-        },
-        solved .settled,
-      ),
-    )
+finding-refusal-requires : tie.Need-finding-refusal-requires
+finding-refusal-requires c κs = search needs
+
+refused-requires : tie.Need-refused-requires
+refused-requires c κs = search needs
+
+same-length : tie.Need-same-length
+same-length c = search needs
 
 same-length-2 : tie.Need-same-length-2
 same-length-2 c = search needs
+
+returns : tie.Need-returns
+returns c =
+    let start = c .before .before .before .before .before .before .before .before .before .before .before .before .before .before .before .before in
+    let solve = c .before .before .before .before .before .before .before .before .solve in
+    let number = c .before .before .finding-refusal in
+    let solved =
+    found (start .pre .0) (start .args .flows .now) (start .args .nodes .now) _ (solve .last .1 .0) (solve .last .1 .1 .0) _
+    (solve .result) (number .result) (start .pre .1 .flows-are) (start .pre .1 .nodes-are)
+    (omega (arith, nodes-few (start .pre .0))) (solve .ensures) (number .ensures) in
+    let none =
+    none-found (start .args .arcs .now) (start .args .counts) (solve .last .1 .0) (solve .last .1 .1 .0) (number .result) solved
+    (c .before .if1 .taken) in
+    none-drawn (start .args .places .now) (start .args .list .now)
+    (c .refused .ensures ∙ ap (λ (k : ℕ). Refused (refusal k 0)) (none .0)) (start .pre .1 .places-enough)
+    (start .pre .1 .list-enough) (none .1)
+
+finish-requires : tie.Need-finish-requires
+finish-requires c κs =
+    let start = c .before .before .before .before .before .before .before .before .before .before .before .before .before .before .before .before .before .before .before in
+    let solve = c .before .before .before .before .before .before .before .before .before .before .before .solve in
+    let number = c .before .before .before .before .before .finding-refusal in
+    let solved =
+    found (start .pre .0) (start .args .flows .now) (start .args .nodes .now) _ (solve .last .1 .0) (solve .last .1 .1 .0) _
+    (solve .result) (number .result) (start .pre .1 .flows-are) (start .pre .1 .nodes-are)
+    (omega (arith, nodes-few (start .pre .0))) (solve .ensures) (number .ensures) in (
+      start .pre .0,
+      (
+        record {
+          flows-are = solve .kept .1 .0 ∙ start .pre .1 .flows-are;
+          nodes-are = solve .kept .1 .1 .0 ∙ start .pre .1 .nodes-are;
+          places-enough = start .pre .1 .places-enough;
+          list-enough = start .pre .1 .list-enough;
+        },
+        is-settled (start .args .arcs .now) (start .args .counts) (solve .last .1 .0) (solve .last .1 .1 .0)
+            (number .result) solved (c .before .before .before .before .if1 .left),
+      ),
+    )
 
 same-length-3 : tie.Need-same-length-3
 same-length-3 c = search needs
@@ -71,6 +76,9 @@ same-length-4 c = search needs
 same-length-5 : tie.Need-same-length-5
 same-length-5 c = search needs
 
+same-length-6 : tie.Need-same-length-6
+same-length-6 c = search needs
+
 returns-2 : tie.Need-returns-2
 unfolding result
 returns-2 c = λ h. c .before .before .before .finish .ensures h
@@ -79,15 +87,16 @@ pub draw-within-spec : {M : Type 1} → statement M
 draw-within-spec =
     tie.close
     (tie.spec
-    start-requires
-    refused-requires
-    same-length
-    returns
     slice-aggregate-solve
     solve-requires
-    finish-requires
+    finding-refusal-requires
+    refused-requires
+    same-length
     same-length-2
+    returns
+    finish-requires
     same-length-3
     same-length-4
     same-length-5
+    same-length-6
     returns-2)

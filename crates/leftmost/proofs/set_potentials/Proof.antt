@@ -1,15 +1,15 @@
--- `engine::stages::set_potentials` meets its contract: each turn makes one store of the definition.
+-- `leftmost::set_potentials` meets its contract: each turn makes one store of the definition.
 use mathlib.Core.Path.{_≡_, refl, sym, _∙_, ap}
 use mathlib.Core.List.{List}
 use Prim.Native.Nat.{ℕ, _-_, _*_, _≤_}
 use native.Mathlib.Omega.{arith}
 use borrow.Author.Needs.{needs}
 use lib.ListN.{length, getD, set, length-set}
-use Rattle.engine.specs.inside.Stages.{potentials-to}
+use Rattle.leftmost.specs.inside.Potentials.{potentials-to}
 use Rattle.circulation.specs.Nodes.{node-stride}
-use Rattle.engine.proofs.laws.Potentials.{potentials-none, potentials-next}
-use Rattle.engine.proofs.stages.set_potentials.Statement.{statement}
-use Rattle.engine.proofs.stages.set_potentials.Tie as tie
+use Rattle.leftmost.proofs.laws.Potentials.{potentials-none, potentials-next}
+use Rattle.leftmost.proofs.set_potentials.Statement.{statement}
+use Rattle.leftmost.proofs.set_potentials.Tie as tie
 
 abbrev Inv-loop : tie.InvT-loop
 Inv-loop values count nodes₀ v₀ nodes v =
