@@ -21,10 +21,12 @@ pub enum Answer {
     Malformed,
 }
 
-// Flows that balance, and the leftmost potentials of least cost, of as many arcs as there are flows; each node and ground has
-// NODE_STRIDE numbers, the potential first. What the slices hold is not read. room is to work in: it has a number for each node or
-// more, and solving is fast where it has 1 + 3 · nodes + 2 · arcs. At the end it is 0, and so are the other numbers of the nodes.
-// NoSolution is an answer and no refusal: flows and nodes are as they were, and room is 0. Malformed leaves all slices as they were.
+// Flows that balance, and the leftmost potentials of least cost, of as many arcs as there are flows. Each node has NODE_STRIDE
+// numbers, its potential first, and ground is the last node. room is to work in: it has a number or more for each node, and
+// solving is fast where it has 1 + 3 · nodes + 2 · arcs. What these slices hold at first is not looked at.
+// Solved leaves the potentials relative to ground's, with 2^28 added, and 0 in the other numbers of the nodes and in room; which
+// flows it leaves is open. NoSolution is an answer and no refusal: no potentials that are not negative are feasible; room is 0,
+// flows and nodes are as they were. Malformed leaves all slices as they were.
 pub fn solve(arcs: &[u32], flows: &mut [u32], nodes: &mut [u32], room: &mut [u32]) -> Answer
     ensures { λ r. ⌜ Means (net (now (arcs .entry)) (length (now (flows .entry)))) (now (flows .entry)) (now (nodes .entry)) (now (room .entry)) (now (flows .exit)) (now (nodes .exit)) (now (room .exit)) (finding r) ⌝ }
 {

@@ -1,6 +1,5 @@
--- Where every node of the network that packed arcs are hangs on ground, by an arc whose kink is not positive, the solver of
--- flows finds the arc by its number, and no potentials are negative. The arc is found since, were there none, all arcs would pass the
--- opposite test, and so would the arc by which the node hangs.
+-- Where every node of the network that packed arcs are hangs on ground, by an arc whose kink is not positive: it hangs by a packed
+-- arc, since otherwise all arcs would pass the opposite test; and where any potentials are feasible, some that are not negative are.
 use Prim.Native.Nat.{ℕ, zero, suc, _-_, _*_, _+_, _≤_, _<_}
 use mathlib.Core.Path.{_≡_, refl, sym, subst}
 use mathlib.Core.Bool.{Bool, true, false, not, _&&_, _||_}
