@@ -263,7 +263,8 @@ fn help_has_every_target() {
 #[test]
 fn times_are_those_of_a_copy() {
     let repository = Repository::new("times");
-    let kit = "echo rt: sheet proved \\(25 s\\)\necho rt: ok\n[ -e crates.txt ] && [ ! -e Makefile ]\n";
+    let kit =
+        "echo rt: sheet proved \\(25 s\\)\necho rt: ok\n[ -e crates.txt ] && [ ! -e Makefile ]\n";
     repository.write("kit", kit.as_bytes());
     let kit = format!("RT=sh {}", repository.folder.join("kit").display());
     let printed = repository.output(make().arg(&kit).arg("times"));
