@@ -4,6 +4,7 @@ use mathlib.Core.Path.{_≡_}
 use mathlib.Core.List.{List, [], _∷_}
 use lib.IntN.{ℤ}
 use lib.ListN.{length, take}
+use Rattle.leb128.specs.Reply.{Reply}
 use Rattle.leb128.specs.Source.{refusal}
 use Rattle.leb128.specs.Format.Result.{elements}
 use Rattle.sheet.specs.Grammar.{sheet}
@@ -31,13 +32,13 @@ pub record EveryDrawing (bytes : List ℕ) (P : List ℕ → Drawn → Type 0) :
 
 -- a drawn row: every drawing has the row's total and places, and the checker says yes to them and the row's list
 pub record DrawnRow (bytes : List ℕ) (total : ℕ) (coordinates : List ℕ) (list : List ℤ) : Type 0 where
-  pub drawing : EveryDrawing bytes (λ places d. (d ≡ Drawn.drawn total) × (places ≡ coordinates))
+  pub drawing : EveryDrawing bytes (λ places d. (d ≡ Reply.value total) × (places ≡ coordinates))
   pub checked : check-answer (read-sheet bytes) coordinates list ≡ accepted
 
 -- what both calls answer on a row's bytes: a sheet without a drawing is refused with 8 at 0, a rejected list gets a no
 abbrev pub Answered : List ℕ → Outcome → Type 0
 Answered bytes (drawn total coordinates list) = DrawnRow bytes total coordinates list
-Answered bytes (undrawable list) = EveryDrawing bytes (λ places d. d ≡ Drawn.refused (refusal none-exists 0))
+Answered bytes (undrawable list) = EveryDrawing bytes (λ places d. d ≡ Reply.refused (refusal none-exists 0))
 Answered bytes (rejected coordinates list) = check-answer (read-sheet bytes) coordinates list ≡ verdict.rejected
 
 -- on every row

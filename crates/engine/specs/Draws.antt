@@ -7,10 +7,10 @@ use mathlib.Core.List.{List}
 use lib.Dec.{T}
 use lib.IntN.{ℤ, pos}
 use lib.ListN.{length, take, drop}
+use Rattle.leb128.specs.Reply.{Reply}
 use Rattle.leb128.specs.Refusals.{slice-short}
 use Rattle.leb128.specs.Format.{Result}
 use Rattle.leb128.specs.Format.Result.{elements}
-use Rattle.leb128.specs.declared.Refusal.{Refusal}
 use Rattle.drawing.specs.Sheet.{Sheet, sheet-of}
 use Rattle.drawing.specs.Drawing.{Drawing, LeftmostDrawing, total-length}
 use Rattle.drawing.specs.Certificate.{certificate-size, meets-rules, bound}
@@ -19,14 +19,13 @@ use Rattle.engine.specs.declared.Answer.{Answer}
 use Rattle.engine.specs.declared.Answer.the-variants as answer
 
 -- the total, or the refusal
-pub data Drawn : Type 0 where
-  drawn : ℕ → Drawn
-  refused : Refusal → Drawn
+abbrev pub Drawn : Type 0
+Drawn = Reply ℕ
 
 -- what each case of the code's answer stands for
 unfoldable pub result : Answer → Drawn
-result (answer.Drawn total) = Drawn.drawn total
-result (answer.Refused r) = Drawn.refused r
+result (answer.Drawn total) = Reply.value total
+result (answer.Refused r) = Reply.refused r
 
 -- both slices, of so many elements, are long enough: a place for each node, a number for each edge and two for each node
 pub record Room (S : Sheet) (places list : ℕ) : Type 0 where
@@ -64,10 +63,10 @@ Keeps p₀ y₀ p y = (p ≡ p₀) × (y ≡ y₀)
 
 -- a good sheet, with the slices before and after
 abbrev pub DrawsSheet : Sheet → List ℕ → List ℤ → List ℕ → List ℤ → Drawn → Type 0
-DrawsSheet S p₀ y₀ p y (Drawn.drawn total) = Returns S p₀ y₀ p y total
-DrawsSheet S p₀ y₀ p y (Drawn.refused r) = Refuses S (length p₀) (length y₀) (r .number) × (r .offset ≡ 0) × Keeps p₀ y₀ p y
+DrawsSheet S p₀ y₀ p y (Reply.value total) = Returns S p₀ y₀ p y total
+DrawsSheet S p₀ y₀ p y (Reply.refused r) = Refuses S (length p₀) (length y₀) (r .number) × (r .offset ≡ 0) × Keeps p₀ y₀ p y
 
 -- the whole call, by what reading gives: its refusals come first
 unfoldable pub Draws : Result → List ℕ → List ℤ → List ℕ → List ℤ → Drawn → Type 0
 Draws (elements numbers) p₀ y₀ p y d = DrawsSheet (sheet-of numbers) p₀ y₀ p y d
-Draws (Result.refused r) p₀ y₀ p y d = (d ≡ Drawn.refused r) × Keeps p₀ y₀ p y
+Draws (Result.refused r) p₀ y₀ p y d = (d ≡ Reply.refused r) × Keeps p₀ y₀ p y

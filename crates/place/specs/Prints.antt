@@ -4,6 +4,7 @@ use mathlib.Core.Path.{_≡_}
 use mathlib.Core.List.{List}
 use lib.IntN.{ℤ, pos}
 use lib.ListN.{length, take, replicate}
+use Rattle.leb128.specs.Reply.{Reply}
 use Rattle.leb128.specs.Format.{Result}
 use Rattle.leb128.specs.Format.Result.{elements}
 use Rattle.sheet.specs.Limits.{max-nodes}
@@ -13,8 +14,8 @@ use Rattle.report.specs.Text.{drawing-text, refusal-text}
 
 -- the text of an answer, with the places of a drawing
 unfoldable pub answer-text : Result → List ℕ → Drawn → Result
-answer-text read p (Drawn.drawn total) = drawing-text read p total
-answer-text read p (Drawn.refused r) = refusal-text r
+answer-text read p (Reply.value total) = drawing-text read p total
+answer-text read p (Reply.refused r) = refusal-text r
 
 -- an answer of drawing, with what it leaves in the places
 pub record Answers (read : Result) (places₀ : List ℕ) (list₀ : List ℤ) (places : List ℕ) (answer : Drawn) : Type 0 where

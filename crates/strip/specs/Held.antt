@@ -1,6 +1,6 @@
 -- Answers that a word holds: each value and each offset is below 2³², and each refusal has a number.
-use Prim.Native.Nat.{_<_}
-use mathlib.Core.Bool.{Bool}
+use Prim.Native.Nat.{ℕ, _<_}
+use mathlib.Core.Bool.{Bool, cond}
 use Rattle.leb128.specs.declared.Refusal.{Refusal}
 use Rattle.leb128.specs.Format.{Outcome}
 use Rattle.leb128.specs.Reply.{Reply}
@@ -17,12 +17,15 @@ abbrev pub HeldOutcome : Outcome → Type 0
 HeldOutcome (Outcome.wrote count) = count < unit
 HeldOutcome (Outcome.refused r) = Held r
 
+-- a reply whose value has a number that a word holds
+abbrev pub HeldReply : {A : Type 0} → (A → ℕ) → Reply A → Type 0
+HeldReply number (Reply.value a) = number a < unit
+HeldReply number (Reply.refused r) = Held r
+
 -- one of drawing
 abbrev pub HeldDrawn : Drawn → Type 0
-HeldDrawn (Drawn.drawn total) = total < unit
-HeldDrawn (Drawn.refused r) = Held r
+HeldDrawn = HeldReply (λ total. total)
 
 -- one of checking
 abbrev pub HeldJudgement : Reply Bool → Type 0
-HeldJudgement (Reply.value b) = 1 < unit
-HeldJudgement (Reply.refused r) = Held r
+HeldJudgement = HeldReply (λ b. cond b 1 0)

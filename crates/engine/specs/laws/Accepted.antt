@@ -6,9 +6,10 @@ use mathlib.Core.List.{List}
 use native.Mathlib.Omega.{arith}
 use lib.IntN.{ℤ, pos}
 use lib.ListN.{length, take, length-take}
+use Rattle.leb128.specs.Reply.{Reply}
+use Rattle.leb128.specs.laws.ReplyCases.{value-not}
 use Rattle.leb128.specs.Format.{Result}
 use Rattle.leb128.specs.Format.Result.{elements}
-use Rattle.leb128.specs.declared.Refusal.{Refusal}
 use Rattle.drawing.specs.Sheet.{sheet-of}
 use Rattle.drawing.specs.Certificate.{certificate-size}
 use Rattle.drawing.specs.Judged.{judged}
@@ -16,7 +17,7 @@ use Rattle.drawing.specs.laws.Judged.{Accepted, accepted-judged}
 use Rattle.network.specs.laws.Tests.{is-true}
 use Rattle.checker.specs.Verdict.{accepted, judge-numbers, check-answer}
 use Rattle.checker.specs.laws.Decided.{numbers-decided}
-use Rattle.engine.specs.Draws.{Drawn, Returns, Draws}
+use Rattle.engine.specs.Draws.{Returns, Draws}
 
 module _ (s p₀ : List ℕ) (y₀ : List ℤ) (p : List ℕ) (y : List ℤ) (total : ℕ) (g : Returns (sheet-of s) p₀ y₀ p y total) where
   -- the facts that the checker decides
@@ -37,13 +38,9 @@ module _ (s p₀ : List ℕ) (y₀ : List ℤ) (p : List ℕ) (y : List ℤ) (to
       numbers-decided s p y true places-enough numbers-enough
       (is-true (judged (sheet-of s) (take (sheet-of s .nodes) p) (take (certificate-size (sheet-of s)) y)) (accepted-judged s (take (sheet-of s .nodes) p) (take (certificate-size (sheet-of s)) y) facts))
 
--- a total is no refusal
-drawn-not : {total : ℕ} {r : Refusal} → Drawn.drawn total ≡ Drawn.refused r → ⊥
-drawn-not e = let z : _≡_ {A = ℕ} 0 1 = cc in omega arith
-
 -- the checker says yes to what is drawn
 pub drawn-accepted : (read : Result) (p₀ : List ℕ) (y₀ : List ℤ) (p : List ℕ) (y : List ℤ) (total : ℕ)
-    → Draws read p₀ y₀ p y (Drawn.drawn total) → check-answer read p y ≡ accepted
+    → Draws read p₀ y₀ p y (Reply.value total) → check-answer read p y ≡ accepted
 unfolding Draws check-answer
 drawn-accepted (elements numbers) p₀ y₀ p y total g = numbers-yes numbers p₀ y₀ p y total g
-drawn-accepted (Result.refused r) p₀ y₀ p y total g = absurd (drawn-not (g .0))
+drawn-accepted (Result.refused r) p₀ y₀ p y total g = absurd (value-not (g .0))

@@ -6,6 +6,7 @@ use mathlib.Core.List.{List}
 use native.Mathlib.Omega.{arith}
 use lib.IntN.{ℤ}
 use lib.ListN.{length, take}
+use Rattle.leb128.specs.Reply.{Reply}
 use Rattle.leb128.specs.Format.{Result}
 use Rattle.leb128.specs.Format.Result.{elements}
 use Rattle.leb128.specs.declared.Refusal.{Refusal}
@@ -26,13 +27,13 @@ use Rattle.engine.specs.Draws.Refuses.{few-places, few-numbers, none, pa
 
 module _ (bytes numbers : List ℕ) (read : read-sheet bytes ≡ elements numbers) (p₀ : List ℕ) (y₀ : List ℤ) (p : List ℕ) (y : List ℤ) where
   -- where 8 is answered, no assignment exists
-  pub none-assigned : (r : Refusal) → r .number ≡ none-exists → Draws (read-sheet bytes) p₀ y₀ p y (Drawn.refused r)
+  pub none-assigned : (r : Refusal) → r .number ≡ none-exists → Draws (read-sheet bytes) p₀ y₀ p y (Reply.refused r)
       → (x : List ℤ) → Assignment (sheet-of numbers) x → ⊥
   unfolding Draws
   none-assigned r e d x a = go (meets .0) e
     where
-      meets : DrawsSheet (sheet-of numbers) p₀ y₀ p y (Drawn.refused r)
-      meets = subst (λ (z : Result). Draws z p₀ y₀ p y (Drawn.refused r)) read d
+      meets : DrawsSheet (sheet-of numbers) p₀ y₀ p y (Reply.refused r)
+      meets = subst (λ (z : Result). Draws z p₀ y₀ p y (Reply.refused r)) read d
 
       go : {n : ℕ} → Refuses (sheet-of numbers) (length p₀) (length y₀) n → n ≡ none-exists → ⊥
       go (few-places h) e = omega arith
@@ -41,19 +42,19 @@ module _ (bytes numbers : List ℕ) (read : read-sheet bytes ≡ elements number
       go (passes q k b h) e = omega arith
 
   -- what is drawn is a least assignment
-  pub drawn-assigned : (total : ℕ) → Draws (read-sheet bytes) p₀ y₀ p y (Drawn.drawn total)
+  pub drawn-assigned : (total : ℕ) → Draws (read-sheet bytes) p₀ y₀ p y (Reply.value total)
       → LeastAssignment (sheet-of numbers) (integers (take (sheet-of numbers .nodes) p))
   unfolding Draws
   drawn-assigned total d =
-      let meets : DrawsSheet (sheet-of numbers) p₀ y₀ p y (Drawn.drawn total) = subst (λ (z : Result). Draws z p₀ y₀ p y (Drawn.drawn total)) read d in
+      let meets : DrawsSheet (sheet-of numbers) p₀ y₀ p y (Reply.value total) = subst (λ (z : Result). Draws z p₀ y₀ p y (Reply.value total)) read d in
       drawing-least-assignment (sheet-of numbers) (accepts-proper numbers (read-accepted bytes numbers read)) (take (sheet-of numbers .nodes) p) (meets .leftmost .is-least)
 
   -- where an assignment exists and the slices are long enough, a drawing is returned
   pub assigned-drawn : (x : List ℤ) → Assignment (sheet-of numbers) x → Room (sheet-of numbers) (length p₀) (length y₀)
-      → (d : Drawn) → Draws (read-sheet bytes) p₀ y₀ p y d → (total : ℕ) × (d ≡ Drawn.drawn total)
+      → (d : Drawn) → Draws (read-sheet bytes) p₀ y₀ p y d → (total : ℕ) × (d ≡ Reply.value total)
   unfolding Draws
-  assigned-drawn x a room (Drawn.drawn total) g = (total, refl)
-  assigned-drawn x a room (Drawn.refused r) g =
+  assigned-drawn x a room (Reply.value total) g = (total, refl)
+  assigned-drawn x a room (Reply.refused r) g =
       let proper : Proper (sheet-of numbers) = accepts-proper numbers (read-accepted bytes numbers read) in
-      let meets : DrawsSheet (sheet-of numbers) p₀ y₀ p y (Drawn.refused r) = subst (λ (z : Result). Draws z p₀ y₀ p y (Drawn.refused r)) read g in
+      let meets : DrawsSheet (sheet-of numbers) p₀ y₀ p y (Reply.refused r) = subst (λ (z : Result). Draws z p₀ y₀ p y (Reply.refused r)) read g in
       absurd (refused-none (sheet-of numbers) (length p₀) (length y₀) proper room (meets .0) .1 (shifted x) (shifted-drawing (sheet-of numbers) proper x a))

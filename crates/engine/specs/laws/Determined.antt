@@ -6,6 +6,7 @@ use mathlib.Core.List.{List, _++_}
 use native.Mathlib.Omega.{arith}
 use lib.IntN.{ℤ}
 use lib.ListN.{length, take, take-append-drop}
+use Rattle.leb128.specs.Reply.{Reply}
 use Rattle.leb128.specs.Format.{Result}
 use Rattle.leb128.specs.Format.Result.{elements}
 use Rattle.drawing.specs.Sheet.{Sheet, sheet-of}
@@ -46,11 +47,11 @@ module _ (S : Sheet) (p₀ : List ℕ) (y₀ : List ℤ) where
 
   -- two drawings are one
   one-drawing : {s t : ℕ} {p q : List ℕ} {y z : List ℤ} → Returns S p₀ y₀ p y s → Returns S p₀ y₀ q z t
-      → Same p q (Drawn.drawn s) (Drawn.drawn t)
+      → Same p q (Reply.value s) (Reply.value t)
   one-drawing {p = p} {q = q} g h =
       let same : take (S .nodes) p ≡ take (S .nodes) q = leftmost-unique S (take (S .nodes) p) (take (S .nodes) q) (g .leftmost) (h .leftmost) in
       record {
-        answer = ap Drawn.drawn (g .total-is ∙ ap (total-length S) same ∙ sym (h .total-is));
+        answer = ap Reply.value (g .total-is ∙ ap (total-length S) same ∙ sym (h .total-is));
         places =
             sym (take-append-drop (S .nodes) p)
             ∙ ap₂ (λ (a b : List ℕ). a ++ b) same (g .places-behind ∙ sym (h .places-behind))
@@ -59,13 +60,13 @@ module _ (S : Sheet) (p₀ : List ℕ) (y₀ : List ℤ) where
 
   -- the answers for a good sheet are the same
   one-sheet : (p q : List ℕ) (y z : List ℤ) (a b : Drawn) → DrawsSheet S p₀ y₀ p y a → DrawsSheet S p₀ y₀ q z b → Same p q a b
-  one-sheet p q y z (Drawn.drawn s) (Drawn.drawn t) g h = one-drawing g h
-  one-sheet p q y z (Drawn.drawn s) (Drawn.refused r) g h = absurd (refused-not (h .0) g)
-  one-sheet p q y z (Drawn.refused r) (Drawn.drawn t) g h = absurd (refused-not (g .0) h)
-  one-sheet p q y z (Drawn.refused r) (Drawn.refused s) g h =
+  one-sheet p q y z (Reply.value s) (Reply.value t) g h = one-drawing g h
+  one-sheet p q y z (Reply.value s) (Reply.refused r) g h = absurd (refused-not (h .0) g)
+  one-sheet p q y z (Reply.refused r) (Reply.value t) g h = absurd (refused-not (g .0) h)
+  one-sheet p q y z (Reply.refused r) (Reply.refused s) g h =
       record {
         answer =
-            ap₂ (λ (n o : ℕ). Drawn.refused (record { number = n; offset = o }))
+            ap₂ (λ (n o : ℕ). Reply.refused (record { number = n; offset = o }))
             (one-refusal S (length p₀) (length y₀) (g .0) (h .0)) (g .1 ∙ sym (h .1));
         places = g .2 .0 ∙ sym (h .2 .0);
       }

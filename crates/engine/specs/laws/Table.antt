@@ -35,19 +35,19 @@ use Rattle.engine.specs.Answers.{EveryDrawing, Answered, EveryAnswered}
 
 -- the answer for a sheet whose leftmost least drawing is known
 drawn-answer : (S : Sheet) (p₀ : List ℕ) (y₀ : List ℤ) (p : List ℕ) (y : List ℤ) (coordinates : List ℕ) (total : ℕ) → Proper S → Room S (length p₀) (length y₀)
-    → LeftmostDrawing S coordinates → total-length S coordinates ≡ total → (d : Drawn) → DrawsSheet S p₀ y₀ p y d → (d ≡ Drawn.drawn total) × (take (S .nodes) p ≡ coordinates)
-drawn-answer S p₀ y₀ p y coordinates total proper room l e (Drawn.drawn t) g =
+    → LeftmostDrawing S coordinates → total-length S coordinates ≡ total → (d : Drawn) → DrawsSheet S p₀ y₀ p y d → (d ≡ Reply.value total) × (take (S .nodes) p ≡ coordinates)
+drawn-answer S p₀ y₀ p y coordinates total proper room l e (Reply.value t) g =
     let same : take (S .nodes) p ≡ coordinates = leftmost-unique S (take (S .nodes) p) coordinates (g .leftmost) l in
-    (ap Drawn.drawn (g .total-is ∙ ap (total-length S) same ∙ e), same)
-drawn-answer S p₀ y₀ p y coordinates total proper room l e (Drawn.refused r) g =
+    (ap Reply.value (g .total-is ∙ ap (total-length S) same ∙ e), same)
+drawn-answer S p₀ y₀ p y coordinates total proper room l e (Reply.refused r) g =
     absurd (refused-none S (length p₀) (length y₀) proper room (g .0) .1 coordinates (l .is-least .candidate))
 
 -- the answer for a sheet without a drawing
 none-answer : (S : Sheet) (p₀ : List ℕ) (y₀ : List ℤ) (p : List ℕ) (y : List ℤ) → Proper S → Room S (length p₀) (length y₀)
-    → NoDrawing S → (d : Drawn) → DrawsSheet S p₀ y₀ p y d → d ≡ Drawn.refused (refusal none-exists 0)
-none-answer S p₀ y₀ p y proper room n (Drawn.drawn t) g = absurd (n (take (S .nodes) p) (g .leftmost .is-least .candidate))
-none-answer S p₀ y₀ p y proper room n (Drawn.refused r) g =
-    ap₂ (λ (k o : ℕ). Drawn.refused (record { number = k; offset = o })) (refused-none S (length p₀) (length y₀) proper room (g .0) .0) (g .1)
+    → NoDrawing S → (d : Drawn) → DrawsSheet S p₀ y₀ p y d → d ≡ Reply.refused (refusal none-exists 0)
+none-answer S p₀ y₀ p y proper room n (Reply.value t) g = absurd (n (take (S .nodes) p) (g .leftmost .is-least .candidate))
+none-answer S p₀ y₀ p y proper room n (Reply.refused r) g =
+    ap₂ (λ (k o : ℕ). Reply.refused (record { number = k; offset = o })) (refused-none S (length p₀) (length y₀) proper room (g .0) .0) (g .1)
 
 -- the checker's word on places and a list of just the needed lengths
 check-word : (bytes numbers p : List ℕ) (y : List ℤ) (b : Bool) → read-sheet bytes ≡ elements numbers → length p ≡ sheet-of numbers .nodes
@@ -80,11 +80,11 @@ row-answered r row = go (r .outcome) (row .says)
 
     go : (o : Outcome) → Says S o → Answered (r .bytes) o
     go (Outcome.drawn total coordinates list) s = record {
-      drawing = every (λ places d. (d ≡ Drawn.drawn total) × (places ≡ coordinates)) (λ p₀ y₀ p y d room g. drawn-answer S p₀ y₀ p y coordinates total proper room (s .leftmost) (s .sum) d g);
+      drawing = every (λ places d. (d ≡ Reply.value total) × (places ≡ coordinates)) (λ p₀ y₀ p y d room g. drawn-answer S p₀ y₀ p y coordinates total proper room (s .leftmost) (s .sum) d g);
       checked = check-word (r .bytes) (row .numbers) coordinates list true (row .read) (s .leftmost .is-least .candidate .size) (s .list-size) (s .accepted);
     }
     go (Outcome.undrawable list) s =
-        every (λ places d. d ≡ Drawn.refused (refusal none-exists 0)) (λ p₀ y₀ p y d room g. none-answer S p₀ y₀ p y proper room s d g)
+        every (λ places d. d ≡ Reply.refused (refusal none-exists 0)) (λ p₀ y₀ p y d room g. none-answer S p₀ y₀ p y proper room s d g)
     go (Outcome.rejected coordinates list) s =
         check-word (r .bytes) (row .numbers) coordinates list false (row .read) (s .size) (s .list-size) (s .rejected)
 

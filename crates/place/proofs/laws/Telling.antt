@@ -7,6 +7,7 @@ use lib.IntN.{ℤ}
 use lib.ListN.{length, take, drop, length-append, length-take}
 use lib.Seq.{take-at}
 use borrow.Author.Tests.{le-ltb}
+use Rattle.leb128.specs.Reply.{Reply}
 use Rattle.leb128.specs.Limits.{list-limit}
 use Rattle.leb128.specs.Format.{Result, outcome, answered, filled}
 use Rattle.leb128.specs.Format.Result.{elements}
@@ -59,7 +60,7 @@ refusal-fits r room h a b =
     }
 
 -- what is drawn was read, and each of its nodes has a place
-drawn-numbers : (read : Result) (p₀ : List ℕ) (y₀ : List ℤ) (p : List ℕ) (y : List ℤ) (total : ℕ) → Draws read p₀ y₀ p y (Drawn.drawn total)
+drawn-numbers : (read : Result) (p₀ : List ℕ) (y₀ : List ℤ) (p : List ℕ) (y : List ℤ) (total : ℕ) → Draws read p₀ y₀ p y (Reply.value total)
     → (numbers : List ℕ) × (read ≡ elements numbers) × (sheet-of numbers .nodes ≤ length p)
 unfolding Draws
 drawn-numbers (elements numbers) p₀ y₀ p y total d =
@@ -67,7 +68,7 @@ drawn-numbers (elements numbers) p₀ y₀ p y total d =
 drawn-numbers (Result.refused r) p₀ y₀ p y total d = let z : _≡_ {A = ℕ} 0 1 = cc (d .0) in absurd (omega arith)
 
 -- a drawing's text fits
-drawing-fits : (bytes p : List ℕ) (total room : ℕ) → max-text ≤ room → Answered (read-sheet bytes) p (Drawn.drawn total)
+drawing-fits : (bytes p : List ℕ) (total room : ℕ) → max-text ≤ room → Answered (read-sheet bytes) p (Reply.value total)
     → ((v : ℕ) → coordinate p v < list-limit) → total < 2 ^ 32 → Fits (drawing-text (read-sheet bytes) p total) room
 drawing-fits bytes p total room h a small t =
     let d = drawn-numbers (read-sheet bytes) (a .places₀) (a .list₀) p (a .answers .list) total (a .answers .draws) in

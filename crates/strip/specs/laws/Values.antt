@@ -3,7 +3,7 @@
 use Prim.Native.Nat.{ℕ, _≤_, _<_}
 use mathlib.Core.Path.{_≡_, refl}
 use mathlib.Core.Logic.{⊎-elim}
-use mathlib.Core.Bool.{Bool}
+use mathlib.Core.Bool.{Bool, true, false}
 use mathlib.Core.List.{List}
 use native.Mathlib.Omega.{arith}
 use lib.IntN.{ℤ}
@@ -70,8 +70,8 @@ writing-held numbers room = go (write-sheet numbers) refl
 -- of a good sheet, drawn
 sheet-held : (S : Sheet) (p₀ : List ℕ) (y₀ : List ℤ) (p : List ℕ) (y : List ℤ) (d : Drawn) → DrawsSheet S p₀ y₀ p y d
     → HeldDrawn d
-sheet-held S p₀ y₀ p y (Drawn.drawn total) h = omega (arith, h .total-in)
-sheet-held S p₀ y₀ p y (Drawn.refused r) h = record { numbered = numbered (h .0); offset-in = omega (arith, h .1) }
+sheet-held S p₀ y₀ p y (Reply.value total) h = omega (arith, h .total-in)
+sheet-held S p₀ y₀ p y (Reply.refused r) h = record { numbered = numbered (h .0); offset-in = omega (arith, h .1) }
   where
     numbered : {n : ℕ} → Refuses S (length p₀) (length y₀) n → 0 < n
     numbered (few-places k) = omega arith
@@ -94,5 +94,6 @@ pub checking-held : (bytes places : List ℕ) (list : List ℤ) → HeldJudgemen
 checking-held bytes places list = go (check-answer (read-sheet bytes) places list) refl
   where
     go : (j : Reply Bool) → check-answer (read-sheet bytes) places list ≡ j → HeldJudgement j
-    go (Reply.value b) e = omega arith
+    go (Reply.value true) e = omega arith
+    go (Reply.value false) e = omega arith
     go (Reply.refused r) e = let g = check-refusals bytes places list r e in given-held r (g .number-in) (g .offset-in)

@@ -1,6 +1,6 @@
 -- `strip::words::drawing_word` meets its contract: each case of the answer is packed.
 use Rattle.engine.specs.Draws.{result}
-use Rattle.strip.specs.Words.{drawn-word}
+use Rattle.strip.specs.Words.{reply-word}
 use borrow.Author.Needs.{needs}
 use Rattle.strip.proofs.words.drawing_word.Statement.{statement}
 use Rattle.strip.proofs.words.drawing_word.Tie as tie
@@ -23,11 +23,11 @@ unfolding result
 word-requires-2 c κs = (rw (c .before .drawing2 .given .1) at (c .before .before .before .pre)) .offset-in
 
 returns : tie.Need-returns
-unfolding result drawn-word
+unfolding result reply-word
 returns c = rw (c .before .before .drawing .given .1) (c .word .ensures)
 
 returns-2 : tie.Need-returns-2
-unfolding result drawn-word
+unfolding result reply-word
 returns-2 c = rw (c .before .before .drawing2 .given .1) (c .word2 .ensures)
 
 pub drawing-word-spec : {M : Type 1} → statement M

@@ -1,6 +1,6 @@
 -- `strip::words::verdict_word` meets its contract: each case of the answer is packed.
 use Rattle.checker.specs.Verdict.{judgement}
-use Rattle.strip.specs.Words.{judgement-word}
+use Rattle.strip.specs.Words.{reply-word}
 use borrow.Author.Needs.{needs}
 use Rattle.strip.proofs.words.verdict_word.Statement.{statement}
 use Rattle.strip.proofs.words.verdict_word.Tie as tie
@@ -25,15 +25,15 @@ unfolding judgement
 word-requires-3 c κs = (rw (c .before .verdict .given .1) at (c .before .before .before .pre)) .offset-in
 
 returns : tie.Need-returns
-unfolding judgement judgement-word
+unfolding judgement reply-word
 returns c = rw (c .before .enum-told .given .1) (c .word .ensures)
 
 returns-2 : tie.Need-returns-2
-unfolding judgement judgement-word
+unfolding judgement reply-word
 returns-2 c = rw (c .before .enum-told2 .given .1) (c .word2 .ensures)
 
 returns-3 : tie.Need-returns-3
-unfolding judgement judgement-word
+unfolding judgement reply-word
 returns-3 c = rw (c .before .before .verdict .given .1) (c .word3 .ensures)
 
 pub verdict-word-spec : {M : Type 1} → statement M
