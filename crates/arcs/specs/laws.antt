@@ -1,4 +1,4 @@
 pub mod Fitting
 pub mod Loaded
-pub mod Held
+pub mod HeldArcs
 pub mod SheetLengths

@@ -3,6 +3,6 @@ pub mod Loops
 pub mod Balances
 pub mod Bounds
 pub mod Sides
-pub mod Held
-pub mod Parts
+pub mod HeldTable
+pub mod DecisionParts
 pub mod Answers

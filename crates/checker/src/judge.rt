@@ -12,7 +12,7 @@ use network::layout::STRIDE;
 ghost use mathlib.Core.Path.{_≡_};
 ghost use Prim.Native.Nat.{_≤_};
 ghost use lib.ListN.{length, take};
-ghost use Rattle.arcs.specs.laws.Held.{Holds};
+ghost use Rattle.arcs.specs.laws.HeldArcs.{Holds};
 ghost use Rattle.checker.specs.inside.Table.{«table-decision»};
 
 // Places that are a drawing, a list that meets the rules, and the bound equal to the total.

@@ -48,7 +48,7 @@ Says S (undrawable list) = (coordinates : List ℕ) → Drawing S coordinates �
 Says S (rejected coordinates list) = Rejected S coordinates list
 
 -- what a row says: the bytes read as a good sheet, and its outcome is this
-pub record Holds (r : Row) : Type 0 where
+pub record RowHolds (r : Row) : Type 0 where
   pub numbers : List ℕ
   pub read : read-sheet (r .bytes) ≡ elements numbers
   pub says : Says (sheet-of numbers) (r .outcome)
@@ -56,4 +56,4 @@ pub record Holds (r : Row) : Type 0 where
 -- every row holds
 abbrev pub Every : List Row → Type 0
 Every [] = Unit {0}
-Every (r ∷ rows) = Holds r × Every rows
+Every (r ∷ rows) = RowHolds r × Every rows

@@ -14,7 +14,7 @@ use Rattle.drawing.specs.Rows.{Outcome, Row}
 use Rattle.drawing.specs.Rows.Outcome.{drawn, undrawable, rejected}
 use Rattle.checker.specs.Verdict.{accepted, check-answer}
 use Rattle.checker.specs.Verdict as verdict
-use Rattle.engine.specs.Refusals.{none-exists}
+use Rattle.engine.specs.Refusals.{no-drawing}
 use Rattle.engine.specs.Draws.{Drawn, Room, Draws}
 
 -- the same answer and the same places
@@ -38,7 +38,7 @@ pub record DrawnRow (bytes : List ℕ) (total : ℕ) (coordinates : List ℕ) (l
 -- what both calls answer on a row's bytes: a sheet without a drawing is refused with 8 at 0, a rejected list gets a no
 abbrev pub Answered : List ℕ → Outcome → Type 0
 Answered bytes (drawn total coordinates list) = DrawnRow bytes total coordinates list
-Answered bytes (undrawable list) = EveryDrawing bytes (λ places d. d ≡ Reply.refused (refusal none-exists 0))
+Answered bytes (undrawable list) = EveryDrawing bytes (λ places d. d ≡ Reply.refused (refusal no-drawing 0))
 Answered bytes (rejected coordinates list) = check-answer (read-sheet bytes) coordinates list ≡ verdict.rejected
 
 -- on every row

@@ -14,7 +14,7 @@ use Rattle.leb128.specs.Format.Result.{elements}
 use Rattle.drawing.specs.Sheet.{Sheet, sheet-of}
 use Rattle.drawing.specs.Drawing.{Drawing, LeftmostDrawing, total-length}
 use Rattle.drawing.specs.Certificate.{certificate-size, meets-rules, bound}
-use Rattle.engine.specs.Refusals.{none-exists, total-passes, total-limit}
+use Rattle.engine.specs.Refusals.{no-drawing, total-passes, total-limit}
 use Rattle.engine.specs.declared.Answer.{Answer}
 use Rattle.engine.specs.declared.Answer.the-variants as answer
 
@@ -41,7 +41,7 @@ NoDrawing S = (q : List ℕ) → Drawing S q → ⊥
 pub data Refuses (S : Sheet) (places list : ℕ) : ℕ → Type 0 where
   few-places : places < S .nodes → Refuses S places list slice-short
   few-numbers : list < certificate-size S → Refuses S places list slice-short
-  none : Room S places list → NoDrawing S → Refuses S places list none-exists
+  none : Room S places list → NoDrawing S → Refuses S places list no-drawing
   passes : (p : List ℕ) → Room S places list → LeftmostDrawing S p → total-limit < total-length S p → Refuses S places list total-passes
 
 -- the leftmost least drawing is in front of the places, with its total; the list in front of the list shows that no total is

@@ -3,8 +3,8 @@ use Prim.Native.Nat.{ℕ}
 use Rattle.leftmost.specs.Solutions.{Finding}
 
 -- no drawing exists
-abbrev pub none-exists : ℕ
-none-exists = 8
+abbrev pub no-drawing : ℕ
+no-drawing = 8
 
 -- the least total passes its limit
 abbrev pub total-passes : ℕ
@@ -18,5 +18,5 @@ total-limit = 16777215
 -- arcs are never malformed.)
 unfoldable pub finding-refusal : Finding → ℕ
 finding-refusal Finding.solved = 0
-finding-refusal Finding.none = none-exists
-finding-refusal Finding.malformed = none-exists
+finding-refusal Finding.none = no-drawing
+finding-refusal Finding.malformed = no-drawing

@@ -16,7 +16,7 @@ use leb128::Refusal;
 use leb128::refusals::SLICE_SHORT;
 ghost use Rattle.sheet.specs.Grammar.{sheet};
 ghost use Rattle.sheet.specs.Reading.{«read-sheet»};
-ghost use Rattle.arcs.specs.laws.Held.{Holds};
+ghost use Rattle.arcs.specs.laws.HeldArcs.{Holds};
 ghost use Rattle.engine.specs.Draws.{result, Draws};
 ghost use Rattle.engine.specs.inside.Stages.{DrawsHeld};
 

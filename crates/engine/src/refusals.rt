@@ -8,7 +8,7 @@ ghost use Rattle.leftmost.specs.Solutions.{finding};
 ghost use Rattle.engine.specs.Refusals.{«finding-refusal»};
 
 // No drawing exists.
-pub const NONE_EXISTS: u8 = 8;
+pub const NO_DRAWING: u8 = 8;
 
 // The refusal of a good sheet, at offset 0.
 pub fn refused(number: u8) -> Answer
@@ -26,7 +26,7 @@ pub fn finding_refusal(found: Finding) -> u8
 {
     match found {
         Finding::Solved => 0,
-        Finding::NoSolution => NONE_EXISTS,
-        Finding::Malformed => NONE_EXISTS,
+        Finding::NoSolution => NO_DRAWING,
+        Finding::Malformed => NO_DRAWING,
     }
 }

@@ -9,9 +9,9 @@ use arcs::Counts;
 use arcs::total;
 use network::layout::STRIDE;
 ghost use lib.ListN.{length};
-ghost use Rattle.arcs.specs.laws.Held.{Holds};
+ghost use Rattle.arcs.specs.laws.HeldArcs.{Holds};
 ghost use Rattle.engine.specs.Draws.{result};
-ghost use Rattle.engine.specs.inside.Stages.{DrawsHeld, Within, Settled, Written};
+ghost use Rattle.engine.specs.inside.Stages.{DrawsHeld, Lent, Settled, Written};
 
 // Draws with room to work in: a flow for each arc, and six numbers for each node and ground.
 pub fn draw_within(
@@ -23,7 +23,7 @@ pub fn draw_within(
     list: &mut [i32],
 ) -> Answer
     requires { ⌜ Holds (now arcs) counts ⌝ }
-    requires { ⌜ Within counts (length (now flows)) (length (now nodes)) (length (now places)) (length (now list)) ⌝ }
+    requires { ⌜ Lent counts (length (now flows)) (length (now nodes)) (length (now places)) (length (now list)) ⌝ }
     ensures { λ r. ⌜ DrawsHeld (now (arcs .entry)) counts (now (places .entry)) (now (list .entry)) (now (places .exit)) (now (list .exit)) (result r) ⌝ }
 {
     let mut room = [0u32; MAX_ROOM];
@@ -44,7 +44,7 @@ fn finish(
     list: &mut [i32],
 ) -> u32
     requires { ⌜ Holds (now arcs) counts ⌝ }
-    requires { ⌜ Within counts (length (now flows)) (length (now nodes)) (length (now places)) (length (now list)) ⌝ }
+    requires { ⌜ Lent counts (length (now flows)) (length (now nodes)) (length (now places)) (length (now list)) ⌝ }
     requires { ⌜ Settled (now arcs) counts (now flows) (now nodes) ⌝ }
     ensures { λ r. ⌜ Written (now (arcs .entry)) counts (now (places .entry)) (now (list .entry)) (now (places .exit)) (now (list .exit)) r ⌝ }
 {

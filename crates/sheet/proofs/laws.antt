@@ -1,5 +1,5 @@
 pub mod Rules
-pub mod Steps
+pub mod WalkSteps
 pub mod Edges
 pub mod Layers
 pub mod Sheet
@@ -7,7 +7,7 @@ pub mod Openings
 pub mod Settling
 pub mod SecondPass
 pub mod Written
-pub mod Filling
+pub mod FillingNumbers
 pub mod Putting
 pub mod Examples
 pub mod Locating

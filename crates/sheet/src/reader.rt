@@ -7,12 +7,12 @@ ghost use lib.ListN.{length};
 ghost use Rattle.leb128.specs.Format.{filled};
 ghost use Rattle.sheet.specs.Grammar.{sheet};
 ghost use Rattle.sheet.specs.Reading.{«read-sheet»};
-ghost use Rattle.sheet.specs.inside.Passes.{Holds};
+ghost use Rattle.sheet.specs.inside.Passes.{SheetBytes};
 use crate::start::MAGIC;
 
 // Decodes the count numbers of a good sheet's bytes into the front of the slice.
 pub fn fill(bytes: &[u8], numbers: &mut [u16], count: usize)
-    requires { ⌜ Holds (now bytes) count ⌝ }
+    requires { ⌜ SheetBytes (now bytes) count ⌝ }
     requires { ⌜ count ≤ length (now numbers) ⌝ }
     ensures { λ r. ⌜ now (numbers .exit) ≡ filled (read-sheet (now (bytes .entry))) (now (numbers .entry)) ⌝ }
 {

@@ -1,3 +1,3 @@
 pub mod Words
-pub mod Held
+pub mod HeldWords
 pub mod laws

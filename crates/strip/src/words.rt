@@ -8,7 +8,7 @@ ghost use Rattle.leb128.specs.Format.{outcome};
 ghost use Rattle.checker.specs.Verdict.{judgement};
 ghost use Rattle.engine.specs.Draws.{result};
 ghost use Rattle.strip.specs.Words.{unit, packed, «outcome-word», «drawn-word», «judgement-word»};
-ghost use Rattle.strip.specs.Held.{HeldJudgement, HeldDrawn, HeldOutcome};
+ghost use Rattle.strip.specs.HeldWords.{HeldJudgement, HeldDrawn, HeldOutcome};
 
 // What one more in the refusal's number adds: 2³².
 const UNIT: u64 = 4294967296;

@@ -3,7 +3,7 @@ use mathlib.Core.Path.{_∙_}
 use native.Mathlib.Omega.{arith}
 use borrow.Author.Needs.{needs}
 use Rattle.arcs.specs.laws.Loaded.{loaded-sheet, reader-refused}
-use Rattle.arcs.specs.laws.Held.{loaded-holds}
+use Rattle.arcs.specs.laws.HeldArcs.{loaded-holds}
 use Rattle.checker.specs.laws.Accepted.{verdict-least}
 use Rattle.checker.proofs.laws.Answers.{loaded-answer, refused-answer}
 use Rattle.checker.proofs.check.Statement.{statement}

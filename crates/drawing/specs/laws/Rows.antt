@@ -15,7 +15,7 @@ use Rattle.drawing.specs.Sheet.{Sheet, sheet-of}
 use Rattle.drawing.specs.Drawing.{total-length}
 use Rattle.drawing.specs.Certificate.{certificate-size}
 use Rattle.drawing.specs.Judged.{judged}
-use Rattle.drawing.specs.Rows.{Outcome, Row, Says, Holds, Every}
+use Rattle.drawing.specs.Rows.{Outcome, Row, Says, RowHolds, Every}
 use Rattle.drawing.specs.Rows.Outcome.{drawn, undrawable, rejected}
 use Rattle.drawing.specs.laws.Judged.{judged-accepted}
 use Rattle.drawing.specs.laws.NoDrawing.{shows-none, no-drawing}
@@ -76,10 +76,10 @@ abbrev pub passed : Row → Bool
 passed r = passes-read (read-sheet (r .bytes)) (r .outcome)
 
 -- a row that passes holds
-passed-holds : (r : Row) → T (passed r) → Holds r
+passed-holds : (r : Row) → T (passed r) → RowHolds r
 passed-holds r t = go (read-sheet (r .bytes)) refl t
   where
-    go : (result : Result) → read-sheet (r .bytes) ≡ result → T (passes-read result (r .outcome)) → Holds r
+    go : (result : Result) → read-sheet (r .bytes) ≡ result → T (passes-read result (r .outcome)) → RowHolds r
     go (elements numbers) e t = record { numbers = numbers; read = e; says = passes-says numbers (r .outcome) t }
     go (refused why) e t = absurd t
 

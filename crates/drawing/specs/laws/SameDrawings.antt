@@ -14,9 +14,7 @@ use Rattle.leb128.specs.laws.Cases.{lt-or-le, eq-or-ne}
 use Rattle.network.specs.Sums.{sum, all}
 use Rattle.network.specs.laws.Tests.{and-left, and-right, and-both, all-ext, all-and, all-map, all-append, all-flat, all-image}
 use Rattle.network.specs.laws.Sums.{sum-append, sum-image, sum-flat, sum-null, sum-pos}
-use Rattle.network.specs.Network.{Arc, Network, Feasible, integers, Least, LeftmostLeast, legal, cost, total}
-use Rattle.network.specs.Flows.{rules, bound as network-bound, complementary}
-use Rattle.network.specs.laws.Duality.{tight-equal, equal-tight, tight-feasible, equal-least}
+use Rattle.network.specs.Network.{Arc, Feasible, integers, Least, LeftmostLeast, legal, cost, total}
 use Rattle.drawing.specs.Sheet.{Pair, Layer, Sheet, pairs-of, layers-of, first-nodes, sheet-of}
 use Rattle.sheet.specs.Layout.{layers-at, first-layer-at, nodes-at, separations-at, separation-stride, minimum-at, maximum-at, next-layer}
 use Rattle.drawing.specs.Drawing.{coordinate, within-maximum, separated, edge-aligned, Drawing, edge-length, total-length, LeastDrawing, LeftmostDrawing}
@@ -185,21 +183,3 @@ least-drawing s = models-least (Drawing (sheet-of s)) (total-length (sheet-of s)
 -- what is leftmost among the least in the network is the leftmost least drawing
 pub leftmost-drawing : (s p : List ℕ) → LeftmostLeast (network (sheet-of s)) (integers p) → LeftmostDrawing (sheet-of s) p
 leftmost-drawing s = models-leftmost (Drawing (sheet-of s)) (total-length (sheet-of s)) (drawings-modelled s)
-
--- with a list y that meets the rules: coordinates in complementary slackness, and leftmost among those, are the
--- leftmost least drawing
-pub complementary-leftmost : (s p : List ℕ) (y : List ℤ) → T (rules (network (sheet-of s)) y) → length p ≡ sheet-of s .nodes
-    → T (complementary (network (sheet-of s)) y (integers p))
-    → ((q : List ℕ) → length q ≡ sheet-of s .nodes → T (complementary (network (sheet-of s)) y (integers q)) → (v : ℕ) → coordinate p v ≤ coordinate q v)
-    → LeftmostDrawing (sheet-of s) p
-unfolding network
-complementary-leftmost s p y rule size t first =
-    let N : Network = network (sheet-of s) in
-    let d : Feasible N (integers p) = tight-feasible N y (integers p) (length-map p pos ∙ size) t in
-    let e : total N (integers p) ≡ network-bound N y = tight-equal N y (integers p) rule d t in
-    let m : LeastDrawing (sheet-of s) p = least-drawing s p (equal-least N y (integers p) rule d e) in
-    record {
-      is-least = m;
-      leftmost = λ q dq equal. first q (dq .size) (equal-tight N y (integers q) rule (drawing-feasible (sheet-of s) q dq)
-          (same-total (sheet-of s) q dq ∙ ap pos equal ∙ sym (same-total (sheet-of s) p (m .candidate)) ∙ e));
-    }

@@ -1,7 +1,7 @@
 -- `engine::draw` meets its contract: a refusal is the reader's, and the loaded arcs are drawn for the bytes.
 use native.Mathlib.Omega.{arith}
 use Rattle.arcs.specs.laws.Loaded.{loaded-sheet, reader-refused}
-use Rattle.arcs.specs.laws.Held.{loaded-holds}
+use Rattle.arcs.specs.laws.HeldArcs.{loaded-holds}
 use Rattle.engine.proofs.laws.Draw.{refused-drawn, loaded-drawn}
 use borrow.Author.Needs.{needs}
 use Rattle.engine.proofs.draw.Statement.{statement}

@@ -22,8 +22,8 @@ use Rattle.leftmost.specs.declared.Answer.the-variants.{Solved, NoSolution, Mal
 use Rattle.leftmost.specs.declared.Answer as leftmost
 use Rattle.arcs.specs.declared.Counts.{Counts}
 use Rattle.arcs.specs.laws.Loaded.{LoadedSheet}
-use Rattle.arcs.specs.laws.Held.{Holds, size-is, loaded-holds, holds-reads}
-use Rattle.engine.specs.Refusals.{none-exists, finding-refusal}
+use Rattle.arcs.specs.laws.HeldArcs.{Holds, size-is, loaded-holds, holds-reads}
+use Rattle.engine.specs.Refusals.{no-drawing, finding-refusal}
 use Rattle.engine.specs.Draws.{Drawn, result, DrawsSheet, Draws}
 use Rattle.engine.specs.Draws.Refuses.{few-places, few-numbers, none}
 use Rattle.engine.specs.inside.Stages.{DrawsHeld, Settled}
@@ -49,7 +49,7 @@ module _ {a : List ℕ} {c : Counts} (p : List ℕ) (y : List ℤ) where
       (few-numbers (omega (arith, size-is h)), refl, (refl, refl))
 
   -- no drawing
-  pub none-drawn : {r : Answer} → r ≡ Refused (refusal none-exists 0) → c .nodes ≤ length p → c .arcs ≤ length y
+  pub none-drawn : {r : Answer} → r ≡ Refused (refusal no-drawing 0) → c .nodes ≤ length p → c .arcs ≤ length y
       → (SomeFeasible (meant (net a (c .arcs)) (c .nodes + 1)) → ⊥) → DrawsHeld a c p y p y (result r)
   unfolding result
   none-drawn e i j f h =
@@ -69,7 +69,7 @@ module _ {a : List ℕ} {c : Counts} (p : List ℕ) (y : List ℤ) where
 -- feasible
 abbrev pub Found : (a : List ℕ) (c : Counts) (x nodes : List ℕ) → ℕ → Type 0
 Found a c x nodes zero = Settled a c x nodes
-Found a c x nodes (suc k) = (suc k ≡ none-exists) × (SomeFeasible (meant (net a (c .arcs)) (c .nodes + 1)) → ⊥)
+Found a c x nodes (suc k) = (suc k ≡ no-drawing) × (SomeFeasible (meant (net a (c .arcs)) (c .nodes + 1)) → ⊥)
 
 -- by its contract: it is never malformed
 pub found : {a : List ℕ} {c : Counts} → Holds a c → (x₀ nodes₀ room₀ x nodes room : List ℕ) (r : leftmost.Answer) (k : ℕ)
@@ -91,7 +91,7 @@ found {a} {c} h x₀ nodes₀ room₀ x nodes room r k xs ns enough m e =
 
 -- where it gives a refusal's number, that is 8 and nothing is feasible
 pub none-found : (a : List ℕ) (c : Counts) (x nodes : List ℕ) (k : ℕ) → Found a c x nodes k → (k ≡ 0 → ⊥)
-    → (k ≡ none-exists) × (SomeFeasible (meant (net a (c .arcs)) (c .nodes + 1)) → ⊥)
+    → (k ≡ no-drawing) × (SomeFeasible (meant (net a (c .arcs)) (c .nodes + 1)) → ⊥)
 none-found a c x nodes zero g e = absurd (e refl)
 none-found a c x nodes (suc k) g e = g
 

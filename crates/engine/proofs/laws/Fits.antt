@@ -23,7 +23,7 @@ use Rattle.drawing.specs.Sheet.{sheet-of}
 use Rattle.drawing.specs.Arcs.{network}
 use Rattle.drawing.specs.laws.ArcLimits.{low-near, high-near, near, Near, near-parts, network-near}
 use Rattle.arcs.specs.declared.Counts.{Counts}
-use Rattle.arcs.specs.laws.Held.{Holds, proper, size-is, arcs-there, network-is}
+use Rattle.arcs.specs.laws.HeldArcs.{Holds, proper, size-is, arcs-there, network-is}
 use Rattle.circulation.specs.Input.{LowIn, HighIn, Limited}
 use Rattle.leftmost.specs.Solutions.{Taken}
 use Rattle.leftmost.specs.laws.Hanging.{hangs-rooted}

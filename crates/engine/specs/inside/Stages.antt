@@ -8,7 +8,7 @@ use Rattle.circulation.specs.Nodes.{node-stride, potentials}
 use Rattle.circulation.specs.Solutions.{Solution}
 use Rattle.drawing.specs.Sheet.{sheet-of}
 use Rattle.arcs.specs.declared.Counts.{Counts}
-use Rattle.arcs.specs.laws.Held.{Holds}
+use Rattle.arcs.specs.laws.HeldArcs.{Holds}
 use Rattle.engine.specs.Draws.{Drawn, Returns, DrawsSheet}
 
 -- the contract of drawing, for the sheet whose packed arcs are held
@@ -16,7 +16,7 @@ abbrev pub DrawsHeld : (a : List ℕ) (c : Counts) (p₀ : List ℕ) (y₀ : Lis
 DrawsHeld a c p₀ y₀ p y d = (h : Holds a c) → DrawsSheet (sheet-of (h .numbers)) p₀ y₀ p y d
 
 -- the room that is lent: a flow for each arc, six numbers for each node and ground; and enough places and numbers of the list
-pub record Within (c : Counts) (flows nodes places list : ℕ) : Type 0 where
+pub record Lent (c : Counts) (flows nodes places list : ℕ) : Type 0 where
   pub flows-are : flows ≡ c .arcs
   pub nodes-are : nodes ≡ node-stride * (c .nodes + 1)
   pub places-enough : c .nodes ≤ places

@@ -20,14 +20,14 @@ use Rattle.drawing.specs.Proper.{Proper}
 use Rattle.drawing.specs.laws.Proper.{accepts-proper}
 use Rattle.drawing.specs.laws.Shift.{shifted-drawing}
 use Rattle.drawing.specs.laws.LeastAssignment.{drawing-least-assignment}
-use Rattle.engine.specs.Refusals.{none-exists}
+use Rattle.engine.specs.Refusals.{no-drawing}
 use Rattle.engine.specs.Draws.{Drawn, Room, Refuses, DrawsSheet, Draws}
 use Rattle.engine.specs.laws.Refusals.{refused-none}
 use Rattle.engine.specs.Draws.Refuses.{few-places, few-numbers, none, passes}
 
 module _ (bytes numbers : List ℕ) (read : read-sheet bytes ≡ elements numbers) (p₀ : List ℕ) (y₀ : List ℤ) (p : List ℕ) (y : List ℤ) where
   -- where 8 is answered, no assignment exists
-  pub none-assigned : (r : Refusal) → r .number ≡ none-exists → Draws (read-sheet bytes) p₀ y₀ p y (Reply.refused r)
+  pub none-assigned : (r : Refusal) → r .number ≡ no-drawing → Draws (read-sheet bytes) p₀ y₀ p y (Reply.refused r)
       → (x : List ℤ) → Assignment (sheet-of numbers) x → ⊥
   unfolding Draws
   none-assigned r e d x a = go (meets .0) e
@@ -35,7 +35,7 @@ module _ (bytes numbers : List ℕ) (read : read-sheet bytes ≡ elements number
       meets : DrawsSheet (sheet-of numbers) p₀ y₀ p y (Reply.refused r)
       meets = subst (λ (z : Result). Draws z p₀ y₀ p y (Reply.refused r)) read d
 
-      go : {n : ℕ} → Refuses (sheet-of numbers) (length p₀) (length y₀) n → n ≡ none-exists → ⊥
+      go : {n : ℕ} → Refuses (sheet-of numbers) (length p₀) (length y₀) n → n ≡ no-drawing → ⊥
       go (few-places h) e = omega arith
       go (few-numbers h) e = omega arith
       go (none k h) e = h (shifted x) (shifted-drawing (sheet-of numbers) (accepts-proper numbers (read-accepted bytes numbers read)) x a)

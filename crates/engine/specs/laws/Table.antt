@@ -21,14 +21,14 @@ use Rattle.drawing.specs.Proper.{Proper}
 use Rattle.drawing.specs.Drawing.{LeftmostDrawing, total-length}
 use Rattle.drawing.specs.Certificate.{certificate-size}
 use Rattle.drawing.specs.Judged.{judged}
-use Rattle.drawing.specs.Rows.{Outcome, Says, Row, Holds, Every}
+use Rattle.drawing.specs.Rows.{Outcome, Says, Row, RowHolds, Every}
 use Rattle.drawing.specs.Table.{table}
 use Rattle.drawing.specs.laws.Proper.{accepts-proper}
 use Rattle.drawing.specs.laws.Unique.{leftmost-unique}
 use Rattle.drawing.specs.laws.Table.{sheets}
 use Rattle.checker.specs.Verdict.{check-answer}
 use Rattle.checker.specs.laws.Decided.{numbers-decided}
-use Rattle.engine.specs.Refusals.{none-exists}
+use Rattle.engine.specs.Refusals.{no-drawing}
 use Rattle.engine.specs.Draws.{Drawn, Room, NoDrawing, DrawsSheet, Draws}
 use Rattle.engine.specs.laws.Refusals.{refused-none}
 use Rattle.engine.specs.Answers.{EveryDrawing, Answered, EveryAnswered}
@@ -44,7 +44,7 @@ drawn-answer S p₀ y₀ p y coordinates total proper room l e (Reply.refused r)
 
 -- the answer for a sheet without a drawing
 none-answer : (S : Sheet) (p₀ : List ℕ) (y₀ : List ℤ) (p : List ℕ) (y : List ℤ) → Proper S → Room S (length p₀) (length y₀)
-    → NoDrawing S → (d : Drawn) → DrawsSheet S p₀ y₀ p y d → d ≡ Reply.refused (refusal none-exists 0)
+    → NoDrawing S → (d : Drawn) → DrawsSheet S p₀ y₀ p y d → d ≡ Reply.refused (refusal no-drawing 0)
 none-answer S p₀ y₀ p y proper room n (Reply.value t) g = absurd (n (take (S .nodes) p) (g .leftmost .is-least .candidate))
 none-answer S p₀ y₀ p y proper room n (Reply.refused r) g =
     ap₂ (λ (k o : ℕ). Reply.refused (record { number = k; offset = o })) (refused-none S (length p₀) (length y₀) proper room (g .0) .0) (g .1)
@@ -59,7 +59,7 @@ check-word bytes numbers p y b read places list e =
     (ap₂ (judged (sheet-of numbers)) (take-all (sheet-of numbers .nodes) p (omega arith)) (take-all (certificate-size (sheet-of numbers)) y (omega arith)) ∙ e))
 
 -- a row that holds is answered so
-row-answered : (r : Row) → Holds r → Answered (r .bytes) (r .outcome)
+row-answered : (r : Row) → RowHolds r → Answered (r .bytes) (r .outcome)
 unfolding Draws
 row-answered r row = go (r .outcome) (row .says)
   where
@@ -84,7 +84,7 @@ row-answered r row = go (r .outcome) (row .says)
       checked = check-word (r .bytes) (row .numbers) coordinates list true (row .read) (s .leftmost .is-least .candidate .size) (s .list-size) (s .accepted);
     }
     go (Outcome.undrawable list) s =
-        every (λ places d. d ≡ Reply.refused (refusal none-exists 0)) (λ p₀ y₀ p y d room g. none-answer S p₀ y₀ p y proper room s d g)
+        every (λ places d. d ≡ Reply.refused (refusal no-drawing 0)) (λ p₀ y₀ p y d room g. none-answer S p₀ y₀ p y proper room s d g)
     go (Outcome.rejected coordinates list) s =
         check-word (r .bytes) (row .numbers) coordinates list false (row .read) (s .size) (s .list-size) (s .rejected)
 

@@ -36,9 +36,9 @@ abbrev pub Steps : ℕ → Source → Type 0
 Steps step source = (form : Form) (at : ℕ) → Near (at + step) (source form at)
 
 -- a walk ends, or is refused, at most there
-abbrev Within : ℕ → Walk → Type 0
-Within limit (whole last ns) = last ≤ limit
-Within limit (refused r) = r .offset ≤ limit
+abbrev EndsWithin : ℕ → Walk → Type 0
+EndsWithin limit (whole last ns) = last ≤ limit
+EndsWithin limit (refused r) = r .offset ≤ limit
 
 -- a list takes a step for each number
 list-steps : (numbers : List ℕ) → Steps 1 (in-list numbers)
@@ -71,7 +71,7 @@ byte-steps bytes form at = go form (byte-item bytes at) refl
     go (above base) (Item.refused r) i = shown (decode number-bytes (drop at bytes)) refl r i
 
 -- a number before a walk
-led-within : (limit n : ℕ) (w : Walk) → Within limit w → Within limit (led n w)
+led-within : (limit n : ℕ) (w : Walk) → EndsWithin limit w → EndsWithin limit (led n w)
 unfolding led
 led-within limit n (whole last ns) h = h
 led-within limit n (refused r) h = h
@@ -79,14 +79,14 @@ led-within limit n (refused r) h = h
 module _ {P : Form → Rule → Type 0} (step : ℕ) (source : Source) (steps : Steps step source) where
   -- a walk of at most m numbers takes a step for each
   walk-within : {m : ℕ} {grammar : Grammar} → Each P m grammar → (at limit : ℕ) → at + step * m ≤ limit
-      → Within limit (walk grammar source at)
+      → EndsWithin limit (walk grammar source at)
   unfolding walk followed checked
   walk-within end at limit h = omega arith
   walk-within (each {m} {form} {rule} {next} p s) at limit h =
       go (source form at) (steps form at) (λ n ok after k. walk-within (s n ok) after limit k)
     where
-      go : (item : Item) → Near (at + step) item → ((n : ℕ) → rule n ≡ 0 → (after : ℕ) → after + step * m ≤ limit → Within limit (walk (next n) source after))
-          → Within limit (followed (checked rule at item) (λ n after. walk (next n) source after))
+      go : (item : Item) → Near (at + step) item → ((n : ℕ) → rule n ≡ 0 → (after : ℕ) → after + step * m ≤ limit → EndsWithin limit (walk (next n) source after))
+          → EndsWithin limit (followed (checked rule at item) (λ n after. walk (next n) source after))
       go (value n after) near again =
           ⊎-elim
           (λ (ok : rule n ≡ 0). rw (eq-eqb (rule n) 0 ok) (led-within limit n (walk (next n) source after) (again n ok after (omega arith))))
@@ -95,7 +95,7 @@ module _ {P : Form → Rule → Type 0} (step : ℕ) (source : Source) (steps : 
       go (Item.refused r) near again = omega arith
 
 -- what follows a walk is refused where it ends
-complete-within : (limit stop : ℕ) (w : Walk) → Within limit w → Within limit (complete stop w)
+complete-within : (limit stop : ℕ) (w : Walk) → EndsWithin limit w → EndsWithin limit (complete stop w)
 unfolding complete
 complete-within limit stop (whole last ns) h =
     ⊎-elim
@@ -105,15 +105,15 @@ complete-within limit stop (whole last ns) h =
 complete-within limit stop (refused r) h = h
 
 -- what is made of a walk is refused where it is
-made-within : (limit : ℕ) (f : List ℕ → List ℕ) (w : Walk) (r : Refusal) → Within limit w → made f w ≡ Result.refused r
+made-within : (limit : ℕ) (f : List ℕ → List ℕ) (w : Walk) (r : Refusal) → EndsWithin limit w → made f w ≡ Result.refused r
     → r .offset ≤ limit
 unfolding made
 made-within limit f (whole last ns) r h e = let z : _≡_ {A = ℕ} 0 1 = cc in absurd (omega arith)
 made-within limit f (refused s) r h e = let is-r : s ≡ r = cc in rw is-r at h
 
 -- an opening that is cut off or another one
-opened-within : (limit : ℕ) (magic bytes : List ℕ) (short same : Bool) (w : Walk) → ltb (length bytes) (length magic) ≡ short → length magic ≤ limit → Within limit w
-    → Within limit (cond short (refused (refusal input-ended (length bytes))) (cond same w (refused (refusal other-opening 0))))
+opened-within : (limit : ℕ) (magic bytes : List ℕ) (short same : Bool) (w : Walk) → ltb (length bytes) (length magic) ≡ short → length magic ≤ limit → EndsWithin limit w
+    → EndsWithin limit (cond short (refused (refusal input-ended (length bytes))) (cond same w (refused (refusal other-opening 0))))
 opened-within limit magic bytes true same w e k h = omega (arith, ltb-true (length bytes) (length magic) e)
 opened-within limit magic bytes false true w e k h = h
 opened-within limit magic bytes false false w e k h = omega arith

@@ -25,12 +25,12 @@ use Rattle.leb128.specs.laws.AcceptedNumbers.Chain.{none, more}
 use Rattle.leb128.specs.laws.GoodFormat.{same-self, good-reading, good-writing}
 
 -- the form can hold the number
-abbrev pub Holds : Form → ℕ → Type 0
-Holds (above base) n = (base ≤ n) × (n - base < number-limit)
+abbrev pub FormHolds : Form → ℕ → Type 0
+FormHolds (above base) n = (base ≤ n) × (n - base < number-limit)
 
 -- the form can hold each number that meets the rule
 abbrev pub Fits : Form → Rule → Type 0
-Fits form rule = (n : ℕ) → rule n ≡ 0 → Holds form n
+Fits form rule = (n : ℕ) → rule n ≡ 0 → FormHolds form n
 
 -- the numbers of a list stand in it
 list-chain : {grammar : Grammar} {ns : List ℕ} (numbers : List ℕ) (at : ℕ) → Accepts grammar ns → ns ≡ drop at numbers
@@ -47,7 +47,7 @@ list-chain numbers at (one {form = form} {n = n} {ns = ns} ok rest) e h =
     more {form = form} {at = at} {after = at + 1} {n = n} ok (rw is-n (list-value numbers at there)) (list-chain numbers (at + 1) rest (rw add-one are) (omega arith))
 
 -- a number that is held behind a front stands there
-held-item : (form : Form) (front rest : List ℕ) (n : ℕ) → Holds form n
+held-item : (form : Form) (front rest : List ℕ) (n : ℕ) → FormHolds form n
     → in-bytes (front ++ (held form n ++ rest)) form (length front) ≡ value n (length front + length (held form n))
 unfolding in-bytes held raised
 held-item (above base) front rest n h =

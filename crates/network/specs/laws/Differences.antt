@@ -2,13 +2,12 @@
 -- unless the flow is the high limit, and at least the kink unless it is the low limit.
 use Prim.Native.Nat.{ℕ, zero, suc, _≤_, zero-le}
 use mathlib.Core.Bool.{not}
-use mathlib.Core.List.{List}
 use native.Mathlib.Omega.{arith}
 use lib.Dec.{T, T-not, leb→le, le→leb}
 use lib.IntN.{ℤ, pos, negsuc, negℤ, _+ℤ_, _-ℤ_}
 use lib.Signed.{_≤ℤ_, leZ-yes}
-use Rattle.network.specs.Network.{reached, Arc, potential, past-kink}
-use Rattle.network.specs.Flows.{Flow, tight-at, tight}
+use Rattle.network.specs.Network.{reached, Arc}
+use Rattle.network.specs.Flows.{tight-at, tight}
 use Rattle.network.specs.laws.IntegerParts.{le-parts, parts-le, up-neg, down-neg, sum-parts}
 use Rattle.network.specs.Integers.{down, up}
 use Rattle.network.specs.laws.Tests.{not-not}
@@ -49,17 +48,3 @@ module _ (a : Arc) (y : ℤ) where
       positive : (k : ℕ) → suc k ≤ 0 → ⊥
       positive k h = omega arith
   differences-tight (negsuc k) f g = not-not (reached (a .low) y) (λ n. g n .le)
-
--- a tight flow that is not the high limit bounds the head's potential by the tail's
-pub high-difference : (p : List ℤ) (f : Flow) → T (tight p f) → T (not (reached (f .on .high) (f .amount)))
-    → (potential p (f .on .head) -ℤ f .on .kink) ≤ℤ potential p (f .on .tail)
-high-difference p f t n =
-    not-past (potential p (f .on .head)) (potential p (f .on .tail)) (f .on .kink)
-    (tight-high (f .on) (f .amount) (past-kink p (f .on)) t n)
-
--- a tight flow that is not the low limit bounds the tail's potential by the head's
-pub low-difference : (p : List ℤ) (f : Flow) → T (tight p f) → T (not (reached (f .on .low) (f .amount)))
-    → (potential p (f .on .tail) +ℤ f .on .kink) ≤ℤ potential p (f .on .head)
-low-difference p f t n =
-    not-before (potential p (f .on .head)) (potential p (f .on .tail)) (f .on .kink)
-    (tight-low (f .on) (f .amount) (past-kink p (f .on)) t n)

@@ -15,7 +15,7 @@ use Rattle.sheet.specs.declared.Cursor.{Cursor}
 use Rattle.leb128.specs.declared.Refusal.{Refusal}
 use Rattle.sheet.specs.declared.Step.{Step}
 use Rattle.sheet.specs.declared.Step.the-variants.{Value, Refused}
-use Rattle.sheet.proofs.laws.Steps.{limited-value, walk-done, relimit, then-reads, stops, good-value, any-value}
+use Rattle.sheet.proofs.laws.WalkSteps.{limited-value, walk-done, relimit, then-reads, stops, good-value, any-value}
 
 -- what follows the upper position, and what follows the layer
 abbrev behind-upper : List ℕ → ℕ → (ℕ → Grammar) → Grammar

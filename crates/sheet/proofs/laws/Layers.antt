@@ -15,7 +15,7 @@ use Rattle.sheet.specs.declared.Cursor.{Cursor}
 use Rattle.leb128.specs.declared.Refusal.{Refusal}
 use Rattle.sheet.specs.declared.Step.{Step}
 use Rattle.sheet.specs.declared.Step.the-variants.{Value, Refused}
-use Rattle.sheet.proofs.laws.Steps.{good-value}
+use Rattle.sheet.proofs.laws.WalkSteps.{good-value}
 
 -- step ends at the cursor c
 pub record Here (step : Step) (c : Cursor) : Type 0 where

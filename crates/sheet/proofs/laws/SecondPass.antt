@@ -18,7 +18,7 @@ use Rattle.leb128.specs.declared.Answer.the-variants.{Done, Refused}
 use Rattle.sheet.specs.Limits.{magic}
 use Rattle.sheet.specs.Grammar.{sheet}
 use Rattle.sheet.specs.Reading.{read-sheet, write-sheet}
-use Rattle.sheet.specs.inside.Passes.{Holds, encode-all}
+use Rattle.sheet.specs.inside.Passes.{SheetBytes, encode-all}
 use Rattle.sheet.specs.laws.SheetNumbers.{SheetNumber, each-sheet}
 use Rattle.sheet.proofs.laws.Settling.{flat}
 
@@ -38,7 +38,7 @@ below-limit (each p s) (one {n = n} ok rest) (suc i) = below-limit (s n ok) rest
 module _ {answer : Answer} {count : ℕ} (old : List ℕ) (is-done : answer ≡ Done count) where
   -- the bytes are good, and their numbers have room
   pub read-done : (bytes : List ℕ) → outcome answer ≡ answered (length old) (read-sheet bytes)
-      → Holds bytes count × (count ≤ length old)
+      → SheetBytes bytes count × (count ≤ length old)
   unfolding outcome
   read-done bytes e =
       let w = answered-wrote (length old) (read-sheet bytes) count (sym e ∙ ap outcome is-done) in

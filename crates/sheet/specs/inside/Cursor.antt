@@ -84,14 +84,14 @@ walked (Value n c) = Measure.whole (c .at) (c .count)
 walked (Refused r) = Measure.refused r
 
 -- what holds of a step's value and next cursor, where it has them
-abbrev pub Holds : Step → (ℕ → Cursor → Type 0) → Type 0
-Holds (Value n c) P = P n c
-Holds (Refused r) P = Unit
+abbrev pub OfValue : Step → (ℕ → Cursor → Type 0) → Type 0
+OfValue (Value n c) P = P n c
+OfValue (Refused r) P = Unit
 
 -- the step reads the part of a grammar that stands at a cursor: whatever follows the part, it goes on from there
 pub record Reads (bytes numbers : List ℕ) (c : Cursor) (part : (ℕ → Grammar) → Grammar) (P : ℕ → Type 0) (r : Step) : Type 0 where
   pub follows : (next : ℕ → Grammar) → walk-from bytes numbers c (part next) ≡ onward bytes numbers r next
-  pub good : Holds r (λ n c. Counted c × P n)
+  pub good : OfValue r (λ n c. Counted c × P n)
 
 -- the step to the number at a cursor, tested by a rule
 abbrev pub tested : List ℕ → List ℕ → Cursor → Rule → Step
@@ -117,4 +117,4 @@ pub record Edge (bytes numbers : List ℕ) (c : Cursor) (counts : List ℕ) (r :
 -- the step ends the n layers at a cursor, whose counts of nodes stand at the front of counts
 pub record LayersRead (bytes numbers : List ℕ) (c : Cursor) (n : ℕ) (counts : List ℕ) (r : Step) : Type 0 where
   pub follows : (next : List ℕ → Grammar) → walk-from bytes numbers c (layers n max-nodes [] next) ≡ onward bytes numbers r (λ m. next (take n counts))
-  pub good : Holds r (λ m c. Counted c)
+  pub good : OfValue r (λ m c. Counted c)

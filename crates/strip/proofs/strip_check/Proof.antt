@@ -2,7 +2,7 @@
 use mathlib.Core.Path.{sym, _∙_, ap, subst}
 use Rattle.strip.specs.Words.{judgement-word}
 use Rattle.strip.specs.laws.Values.{checking-held}
-use Rattle.strip.specs.Held.{HeldJudgement}
+use Rattle.strip.specs.HeldWords.{HeldJudgement}
 use borrow.Author.Needs.{needs}
 use Rattle.strip.proofs.strip_check.Statement.{statement}
 use Rattle.strip.proofs.strip_check.Tie as tie

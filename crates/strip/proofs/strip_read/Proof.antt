@@ -2,7 +2,7 @@
 use mathlib.Core.Path.{sym, _∙_, ap, subst}
 use Rattle.strip.specs.Words.{outcome-word}
 use Rattle.strip.specs.laws.Values.{reading-held}
-use Rattle.strip.specs.Held.{HeldOutcome}
+use Rattle.strip.specs.HeldWords.{HeldOutcome}
 use borrow.Author.Needs.{needs}
 use Rattle.strip.proofs.strip_read.Statement.{statement}
 use Rattle.strip.proofs.strip_read.Tie as tie

@@ -25,7 +25,7 @@ use Rattle.checker.specs.laws.Refusals.{check-refusals}
 use Rattle.engine.specs.Draws.{Drawn, Refuses, DrawsSheet, Draws}
 use Rattle.engine.specs.Draws.Refuses.{few-places, few-numbers, none, passes}
 use Rattle.strip.specs.Words.{unit}
-use Rattle.strip.specs.Held.{Held, HeldOutcome, HeldDrawn, HeldJudgement}
+use Rattle.strip.specs.HeldWords.{Held, HeldOutcome, HeldDrawn, HeldJudgement}
 
 -- a refusal of a format
 given-held : (r : Refusal) → FormatRefusal (r .number) → r .offset ≤ max-bytes → Held r

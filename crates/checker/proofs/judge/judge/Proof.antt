@@ -5,7 +5,7 @@ use native.Mathlib.Omega.{arith}
 use lib.ListN.{take}
 use borrow.Author.Needs.{needs}
 use Rattle.checker.specs.inside.Table.{table-decision}
-use Rattle.checker.proofs.laws.Parts.{less-none, front-length}
+use Rattle.checker.proofs.laws.DecisionParts.{less-none, front-length}
 use Rattle.checker.proofs.judge.judge.Statement.{statement}
 use Rattle.checker.proofs.judge.judge.Tie as tie
 

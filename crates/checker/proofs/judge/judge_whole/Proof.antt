@@ -3,10 +3,10 @@ use mathlib.Core.Path.{_∙_, ap₂}
 use native.Mathlib.Omega.{arith}
 use borrow.Author.Needs.{needs}
 use Rattle.network.specs.Integers.{eqZ}
-use Rattle.checker.proofs.laws.Parts.{not-legal, not-allowed, not-balanced, by-bound}
+use Rattle.checker.proofs.laws.DecisionParts.{not-legal, not-allowed, not-balanced, by-bound}
 use Rattle.checker.proofs.laws.Bits.{read, pass}
-use Rattle.arcs.specs.laws.Held.{nodes-few, edges-there}
-use Rattle.checker.proofs.laws.Held.{table}
+use Rattle.arcs.specs.laws.HeldArcs.{nodes-few, edges-there}
+use Rattle.checker.proofs.laws.HeldTable.{table}
 use Rattle.checker.proofs.judge.judge_whole.Statement.{statement}
 use Rattle.checker.proofs.judge.judge_whole.Tie as tie
 

@@ -1,6 +1,6 @@
 -- `engine::stages::finish` meets its contract: what is written are the leftmost least drawing and its list.
 use native.Mathlib.Omega.{arith}
-use Rattle.arcs.specs.laws.Held.{edges-there}
+use Rattle.arcs.specs.laws.HeldArcs.{edges-there}
 use Rattle.engine.proofs.laws.Fits.{edges-few}
 use Rattle.engine.proofs.laws.Finish.{places-fit, flows-fit, returned}
 use borrow.Author.Needs.{needs}

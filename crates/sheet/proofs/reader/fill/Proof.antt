@@ -1,6 +1,6 @@
 -- `sheet::reader::fill` meets its contract: the loop's invariant is `FillLeft`.
 use native.Mathlib.Omega.{arith}
-use Rattle.sheet.proofs.laws.Filling.{FillLeft, fill-begin, fill-next, fill-never, fill-end}
+use Rattle.sheet.proofs.laws.FillingNumbers.{FillLeft, fill-begin, fill-next, fill-never, fill-end}
 use Prim.Native.Nat.{_-_}
 use borrow.Author.Needs.{needs}
 use Rattle.sheet.proofs.reader.fill.Statement.{statement}

@@ -3,7 +3,7 @@ use native.Mathlib.Omega.{arith}
 use denote.Ref.{now}
 use mathlib.Core.Bool.{true}
 use mathlib.Core.Path.{sym, _∙_, ap}
-use Rattle.sheet.proofs.laws.Steps.{coded-item}
+use Rattle.sheet.proofs.laws.WalkSteps.{coded-item}
 use Rattle.sheet.specs.inside.Cursor.{step-of}
 use Rattle.leb128.specs.laws.ItemCases.{ahead}
 use Rattle.leb128.specs.Source.{item}

@@ -2,7 +2,7 @@
 use native.Mathlib.Omega.{arith}
 use denote.Ref.{now}
 use Rattle.sheet.proofs.laws.Rules.{within-inside, within-below, within-above}
-use Rattle.sheet.proofs.laws.Steps.{test-refused, test-broken, test-good, limited-by}
+use Rattle.sheet.proofs.laws.WalkSteps.{test-refused, test-broken, test-good, limited-by}
 use Rattle.sheet.specs.inside.Cursor.{source}
 use Rattle.leb128.specs.Grammar.{plain, within}
 use borrow.Author.Needs.{needs}

@@ -3,7 +3,7 @@ use native.Mathlib.Omega.{arith}
 use denote.Ref.{now}
 use mathlib.Core.Bool.{false}
 use mathlib.Core.Path.{sym, _∙_, ap}
-use Rattle.sheet.proofs.laws.Steps.{listed-item, listed-there}
+use Rattle.sheet.proofs.laws.WalkSteps.{listed-item, listed-there}
 use Rattle.sheet.specs.inside.Cursor.{step-of}
 use Rattle.leb128.specs.laws.DecodeEncode.{encode-most}
 use Rattle.leb128.specs.laws.NumberSize.{number-size-is}

@@ -1,7 +1,7 @@
 -- `sheet::walk::edge` meets its contract: four steps, one behind the other (`EdgeLaws`).
 use native.Mathlib.Omega.{arith}
 use denote.Ref.{now}
-use Rattle.sheet.proofs.laws.Steps.{limited-value}
+use Rattle.sheet.proofs.laws.WalkSteps.{limited-value}
 use Rattle.sheet.proofs.laws.Edges.{layer-refused, upper-refused, lower-refused, edge-read}
 use borrow.Author.Needs.{needs}
 use Rattle.sheet.proofs.walk.edge.Statement.{statement}

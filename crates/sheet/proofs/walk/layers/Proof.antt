@@ -2,7 +2,7 @@
 use Prim.Native.Nat.{_-_, min}
 use Rattle.sheet.specs.Limits.{max-layer-nodes}
 use Rattle.sheet.specs.inside.Cursor.{Limited}
-use Rattle.sheet.proofs.laws.Steps.{relimit, limited-value}
+use Rattle.sheet.proofs.laws.WalkSteps.{relimit, limited-value}
 use mathlib.Core.Path.{_≡_, refl}
 use native.Mathlib.Omega.{arith}
 use borrow.Author.Needs.{needs}

@@ -2,7 +2,7 @@
 use native.Mathlib.Omega.{arith}
 use denote.Ref.{now}
 use Rattle.sheet.proofs.laws.Rules.{crossed-none, crossed-below, crossed-inside}
-use Rattle.sheet.proofs.laws.Steps.{test-refused, test-broken, test-good, maximum-by}
+use Rattle.sheet.proofs.laws.WalkSteps.{test-refused, test-broken, test-good, maximum-by}
 use Rattle.sheet.specs.inside.Cursor.{source}
 use Rattle.sheet.specs.Grammar.{crossed}
 use Rattle.sheet.specs.Limits.{max-separation}

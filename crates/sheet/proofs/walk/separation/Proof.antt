@@ -1,7 +1,7 @@
 -- `sheet::walk::separation` meets its contract: two steps, one behind the other.
 use Rattle.leb128.specs.Grammar.{Grammar, plain}
 use Rattle.sheet.specs.Grammar.{maximum-rule, separation}
-use Rattle.sheet.proofs.laws.Steps.{then-reads, stops, good-value}
+use Rattle.sheet.proofs.laws.WalkSteps.{then-reads, stops, good-value}
 use borrow.Author.Needs.{needs}
 use Rattle.sheet.proofs.walk.separation.Statement.{statement}
 use Rattle.sheet.proofs.walk.separation.Tie as tie

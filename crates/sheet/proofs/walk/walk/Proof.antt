@@ -1,6 +1,6 @@
 -- `sheet::walk::walk` meets its contract: the parts of the sheet, one behind the other (`SheetLaws`).
 use native.Mathlib.Omega.{arith}
-use Rattle.sheet.proofs.laws.Steps.{limited-value}
+use Rattle.sheet.proofs.laws.WalkSteps.{limited-value}
 use Rattle.sheet.proofs.laws.Sheet.{layers-value, width-refused, count-refused, layers-refused, total-refused, sheet-walked}
 use borrow.Author.Needs.{needs}
 use Rattle.sheet.proofs.walk.walk.Statement.{statement}

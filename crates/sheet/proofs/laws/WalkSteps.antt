@@ -22,7 +22,7 @@ use Rattle.leb128.specs.laws.EachNumber.{within-limits}
 use Rattle.leb128.specs.declared.Refusal.{Refusal}
 use Rattle.sheet.specs.Limits.{max-separation}
 use Rattle.sheet.specs.Grammar.{crossed, maximum-rule}
-use Rattle.sheet.specs.inside.Cursor.{Measure, source, weight, weigh, step-of, counted, Counted, measured, walk-from, onward, Holds, Reads, tested, Limited, Maximum}
+use Rattle.sheet.specs.inside.Cursor.{Measure, source, weight, weigh, step-of, counted, Counted, measured, walk-from, onward, OfValue, Reads, tested, Limited, Maximum}
 use Rattle.sheet.specs.declared.Cursor.{Cursor}
 use Rattle.sheet.specs.declared.Step.{Step}
 use Rattle.sheet.specs.declared.Step.the-variants.{Value, Refused}
@@ -204,7 +204,7 @@ module _ {bytes numbers : List ℕ} {c : Cursor} {part : (ℕ → Grammar) → G
   pub any-value : Reads bytes numbers c part (λ n. Unit) step
   any-value = record { follows = first .follows; good = go step (first .good) }
     where
-      go : (s : Step) → Holds s (λ n c. Counted c × P n) → Holds s (λ n c. Counted c × Unit)
+      go : (s : Step) → OfValue s (λ n c. Counted c × P n) → OfValue s (λ n c. Counted c × Unit)
       go (Value n after) g = (g .0, tt)
       go (Refused r) g = tt
 

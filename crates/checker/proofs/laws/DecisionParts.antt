@@ -22,7 +22,7 @@ use Rattle.arcs.specs.Words.{u32-most}
 use Rattle.arcs.specs.Lengths.{lengths-of}
 use Rattle.arcs.specs.laws.SheetLengths.{drawing-total}
 use Rattle.arcs.specs.declared.Counts.{Counts}
-use Rattle.arcs.specs.laws.Held.{Holds, proper, network-is, edges-front}
+use Rattle.arcs.specs.laws.HeldArcs.{Holds, proper, network-is, edges-front}
 use Rattle.checker.specs.inside.Table.{table-decision}
 
 -- from the start of a slice

@@ -21,9 +21,9 @@ use Rattle.leb128.specs.declared.Found.the-variants.{Value, Refused}
 use Rattle.sheet.specs.Limits.{magic}
 use Rattle.sheet.specs.Grammar.{sheet}
 use Rattle.sheet.specs.Reading.{read-sheet}
-use Rattle.sheet.specs.inside.Passes.{Holds}
+use Rattle.sheet.specs.inside.Passes.{SheetBytes}
 use Rattle.sheet.specs.laws.SheetNumbers.{SheetNumber, each-sheet}
-use Rattle.sheet.proofs.laws.Steps.{plain-raised}
+use Rattle.sheet.proofs.laws.WalkSteps.{plain-raised}
 use Rattle.sheet.proofs.laws.Written.{Written, written-begin, written-length, written-one, written-end}
 
 -- these numbers stand in the bytes, one behind the other
@@ -54,7 +54,7 @@ pub record FillLeft (bytes : List ℕ) (count : ℕ) (old new : List ℕ) (at i 
   pub written : Written wanted old new rest i
 
 -- nothing is written at the start
-pub fill-begin : {bytes : List ℕ} {count : ℕ} (old : List ℕ) → Holds bytes count → count ≤ length old
+pub fill-begin : {bytes : List ℕ} {count : ℕ} (old : List ℕ) → SheetBytes bytes count → count ≤ length old
     → FillLeft bytes count old old (length magic) 0
 unfolding read-sheet
 fill-begin {bytes} {count} old h room =
