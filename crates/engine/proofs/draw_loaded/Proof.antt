@@ -2,7 +2,7 @@
 use native.Mathlib.Omega.{arith}
 use Rattle.engine.proofs.laws.Fits.{nodes-few, arcs-few}
 use Rattle.engine.proofs.laws.Draw.{few-places-drawn, few-numbers-drawn}
-use Rattle.checker.proofs.laws.Parts.{front-length}
+use Rattle.checker.proofs.laws.DecisionParts.{front-length}
 use borrow.Author.Needs.{needs}
 use Rattle.engine.proofs.draw_loaded.Statement.{statement}
 use Rattle.engine.proofs.draw_loaded.Tie as tie

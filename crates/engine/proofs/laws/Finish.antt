@@ -35,7 +35,7 @@ use Rattle.arcs.specs.Lengths.{lengths-of}
 use Rattle.arcs.specs.laws.SheetLengths.{drawing-total}
 use Rattle.arcs.specs.declared.Counts.{Counts}
 use Rattle.arcs.specs.laws.HeldArcs.{Holds, proper, size-is, edges-front}
-use Rattle.checker.proofs.laws.Parts.{less-none}
+use Rattle.checker.proofs.laws.DecisionParts.{less-none}
 use Rattle.engine.specs.Draws.{Returns}
 use Rattle.engine.proofs.laws.Fits.{meant-is}
 use Rattle.engine.specs.inside.Filling.{filled}
