@@ -9,7 +9,7 @@ ghost use mathlib.Core.Path.{_≡_};
 ghost use Prim.Native.Nat.{_+_, _*_, _≤_, _<_};
 ghost use lib.ListN.{length, set};
 ghost use Rattle.network.specs.Net.{at};
-ghost use Rattle.network.specs.Packed.{«head-at», «high-at», «kink-at», «low-at», stride, «tail-at»};
+ghost use Rattle.network.specs.Packed.{«head-at», «high-at», «kink-at», «low-at», stride, «tail-at», «word-limit»};
 ghost use Rattle.network.specs.Limits.{«most-arcs»};
 
 // The tail of arc i.
@@ -62,7 +62,7 @@ pub fn flow_of(flows: &[u32], i: usize) -> usize
 
 // Stores the flow on arc i.
 pub fn set_flow(flows: &mut [u32], i: usize, a: usize)
-    requires { ⌜ (i < length (now flows)) × (i < most-arcs) × (a < 4294967296) ⌝ }
+    requires { ⌜ (i < length (now flows)) × (i < most-arcs) × (a < word-limit) ⌝ }
     ensures { λ _. ⌜ now (flows .exit) ≡ set (now (flows .entry)) i a ⌝ }
 {
     flows[i] = a as u32;

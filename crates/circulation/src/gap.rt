@@ -17,6 +17,7 @@ ghost use Rattle.circulation.specs.inside.Steps.{CrossingAt, Nearest};
 ghost use Rattle.circulation.specs.inside.Search.{Distance, GapAt};
 ghost use Rattle.circulation.specs.inside.Slackness.{Ready};
 ghost use Rattle.network.specs.Net.{at, net};
+ghost use Rattle.network.specs.Packed.{«word-limit»};
 ghost use Rattle.circulation.specs.Nodes.{potentials, ranks};
 
 // A step that no arc has.
@@ -24,7 +25,7 @@ pub const NEVER: usize = 4294967296;
 
 // How far from is from to, where less is less than more and from is not past to.
 fn distance(from: usize, to: usize, less: usize, more: usize) -> usize
-    requires { ⌜ (from < 4294967296) × (to < 4294967296) ⌝ }
+    requires { ⌜ (from < word-limit) × (to < word-limit) ⌝ }
     ensures { λ r. ⌜ Distance from to less more r ⌝ }
 {
     if to < from {
@@ -36,7 +37,7 @@ fn distance(from: usize, to: usize, less: usize, more: usize) -> usize
     NEVER
 }
 
-// How far the reached nodes may rise until arc i is on its kink; 2^32 where it does not cross or stays out.
+// How far the reached nodes may rise until arc i is on its kink; NEVER where it does not cross or stays out.
 pub fn gap_at(arcs: &[u32], flows: &[u32], nodes: &[u32], i: usize) -> usize
     requires { ⌜ Ready (net (now arcs) (length (now flows))) (potentials (now nodes)) (now flows) (ranks (now nodes)) ⌝ }
     requires { ⌜ i < length (now flows) ⌝ }

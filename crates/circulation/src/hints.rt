@@ -5,12 +5,16 @@ use crate::arc::tail_of;
 use crate::gap::NEVER;
 ghost use Prim.Native.Nat.{_≤_, _<_};
 ghost use Rattle.network.specs.WellFormed.{WellFormed};
+ghost use Rattle.network.specs.Packed.{«word-limit»};
 ghost use Rattle.network.specs.Limits.{«most-nodes»};
 ghost use Rattle.network.specs.Net.{net};
 
+// What is answered for an arc where no node is left to look at.
+const NO_NODE: usize = NEVER + 1;
+
 // Number j of the hints; 0 past their end. Hints only propose arcs: nothing is proved of them.
 fn hint(chains: &[u32], j: usize) -> usize
-    ensures { λ r. ⌜ r < 4294967296 ⌝ }
+    ensures { λ r. ⌜ r < word-limit ⌝ }
 {
     if j < chains.len() {
         return chains[j] as usize;
@@ -20,7 +24,7 @@ fn hint(chains: &[u32], j: usize) -> usize
 
 // Stores number j of the hints, where there is room.
 fn note(chains: &mut [u32], j: usize, a: usize)
-    requires { ⌜ a < 4294967296 ⌝ }
+    requires { ⌜ a < word-limit ⌝ }
 {
     if j < chains.len() {
         chains[j] = a as u32;
@@ -74,13 +78,13 @@ pub fn opened(chains: &mut [u32], n: usize, v: usize)
     note(chains, 1 + 2 * n + v, f);
 }
 
-// The next arc of the newest node; 2^32 where it has no more, 2^32 + 1 where there is no such node.
+// The next arc of the newest node; NEVER where it has no more, NO_NODE where there is no such node.
 pub fn next_hint(chains: &mut [u32], n: usize) -> usize
     requires { ⌜ n ≤ most-nodes ⌝ }
 {
     let top = hint(chains, 0);
     if top == 0 {
-        return 4294967297;
+        return NO_NODE;
     }
     let u = hint(chains, top);
     let e = hint(chains, 1 + 2 * n + u);

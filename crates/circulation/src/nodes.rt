@@ -4,7 +4,8 @@ ghost use mathlib.Core.Path.{_≡_};
 ghost use Prim.Native.Nat.{ℕ, _≤_, _<_};
 ghost use Rattle.circulation.specs.inside.Stores.{Apart, Stored};
 ghost use Rattle.network.specs.Net.{at};
-ghost use Rattle.circulation.specs.Nodes.{column, size};
+ghost use Rattle.circulation.specs.Nodes.{column, «node-stride», size};
+ghost use Rattle.network.specs.Packed.{«word-limit»};
 ghost use Rattle.network.specs.Limits.{«most-nodes»};
 
 // What is added to a need: 2^30.
@@ -34,7 +35,7 @@ pub fn count_of(nodes: &[u32]) -> usize
 
 // Number k of node v.
 pub fn get(nodes: &[u32], v: usize, k: usize) -> usize
-    requires { ⌜ (v < size (now nodes)) × (v < most-nodes) × (k < 6) ⌝ }
+    requires { ⌜ (v < size (now nodes)) × (v < most-nodes) × (k < node-stride) ⌝ }
     ensures { λ r. ⌜ r ≡ at (column k (now (nodes .entry))) v ⌝ }
 {
     nodes[NODE_STRIDE * v + k] as usize
@@ -42,7 +43,7 @@ pub fn get(nodes: &[u32], v: usize, k: usize) -> usize
 
 // Stores number k of node v.
 pub fn put(nodes: &mut [u32], v: usize, k: usize, a: usize)
-    requires { ⌜ (v < size (now nodes)) × (v < most-nodes) × (k < 6) × (a < 4294967296) ⌝ }
+    requires { ⌜ (v < size (now nodes)) × (v < most-nodes) × (k < node-stride) × (a < word-limit) ⌝ }
     ensures { λ _. ⌜ Stored k v a (now (nodes .entry)) (now (nodes .exit)) ⌝ }
 {
     nodes[NODE_STRIDE * v + k] = a as u32;
@@ -50,7 +51,7 @@ pub fn put(nodes: &mut [u32], v: usize, k: usize, a: usize)
 
 // Number k of every node is a.
 pub fn fill(nodes: &mut [u32], k: usize, a: usize)
-    requires { ⌜ (size (now nodes) ≤ most-nodes) × (k < 6) × (a < 4294967296) ⌝ }
+    requires { ⌜ (size (now nodes) ≤ most-nodes) × (k < node-stride) × (a < word-limit) ⌝ }
     ensures { λ _. ⌜ ((v : ℕ) → v < size (now (nodes .entry)) → at (column k (now (nodes .exit))) v ≡ a) ⌝ }
     ensures { λ _. ⌜ Apart k (now (nodes .entry)) (now (nodes .exit)) ⌝ }
 {

@@ -29,7 +29,7 @@ ghost use Rattle.circulation.specs.inside.Search.{RoomOver};
 ghost use Rattle.network.specs.WellFormed.{WellFormed};
 ghost use Rattle.circulation.specs.Input.{Limited, Rooted};
 ghost use Rattle.network.specs.Net.{at, high, low, net};
-ghost use Rattle.network.specs.Packed.{«head-at», stride, «tail-at»};
+ghost use Rattle.network.specs.Packed.{«head-at», stride, «tail-at», «word-limit»};
 ghost use Rattle.network.specs.Limits.{«most-arcs», «most-nodes»};
 ghost use Rattle.circulation.specs.Nodes.{«need-zero», needs, ranks, rooms, size};
 
@@ -87,7 +87,7 @@ pub fn flood(arcs: &[u32], flows: &[u32], nodes: &mut [u32], chains: &mut [u32])
 
 // Only s is reached.
 fn begin(nodes: &mut [u32], s: usize, room: usize)
-    requires { ⌜ (size (now nodes) ≤ most-nodes) × (s < size (now nodes)) × (room < 4294967296) ⌝ }
+    requires { ⌜ (size (now nodes) ≤ most-nodes) × (s < size (now nodes)) × (room < word-limit) ⌝ }
     ensures { λ _. ⌜ Begun s room (now (nodes .entry)) (now (nodes .exit)) ⌝ }
 {
     fill(nodes, RANK, 0);
@@ -138,7 +138,7 @@ fn room_over(arcs: &[u32], flows: &[u32], nodes: &[u32], i: usize, v: usize) -> 
     requires { ⌜ (low (net (now arcs) (length (now flows))) i ≤ at (now flows) i) × (at (now flows) i ≤ high (net (now arcs) (length (now flows))) i) ⌝ }
     requires { ⌜ Limited (net (now arcs) (length (now flows))) ⌝ }
     ensures { λ r. ⌜ RoomOver (net (now (arcs .entry)) (length (now (flows .entry)))) (at (now (flows .entry))) (at (rooms (now (nodes .entry)))) i v r ⌝ }
-    ensures { λ r. ⌜ r < 4294967296 ⌝ }
+    ensures { λ r. ⌜ r < word-limit ⌝ }
 {
     let t = tail_of(arcs, i);
     let x = flow_of(flows, i);
@@ -151,7 +151,7 @@ fn room_over(arcs: &[u32], flows: &[u32], nodes: &[u32], i: usize, v: usize) -> 
 
 // Node v is reached.
 fn reach(nodes: &mut [u32], v: usize, rank: usize, parent: usize, room: usize)
-    requires { ⌜ (v < size (now nodes)) × (v < most-nodes) × (rank < 4294967296) × (parent < 4294967296) × (room < 4294967296) ⌝ }
+    requires { ⌜ (v < size (now nodes)) × (v < most-nodes) × (rank < word-limit) × (parent < word-limit) × (room < word-limit) ⌝ }
     ensures { λ _. ⌜ Reaches v rank parent room (now (nodes .entry)) (now (nodes .exit)) ⌝ }
 {
     put(nodes, v, RANK, rank);

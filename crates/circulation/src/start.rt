@@ -22,6 +22,7 @@ ghost use Rattle.circulation.specs.inside.Slackness.{Filled, FilledAt, S
 ghost use Rattle.network.specs.WellFormed.{WellFormed};
 ghost use Rattle.circulation.specs.Input.{Valid};
 ghost use Rattle.network.specs.Net.{asks, at, high, low, net, stands};
+ghost use Rattle.network.specs.Packed.{«word-limit»};
 ghost use Rattle.network.specs.Limits.{«most-nodes»};
 ghost use Rattle.circulation.specs.Limits.{«high-most», «low-least»};
 ghost use Rattle.circulation.specs.Nodes.{«need-zero», needs, potentials, size};
@@ -89,7 +90,7 @@ pub fn count_need(arcs: &[u32], flows: &[u32], nodes: &mut [u32])
 // Counts a units that flow out of t and into h.
 pub fn charge(nodes: &mut [u32], t: usize, h: usize, a: usize)
     requires { ⌜ (h < size (now nodes)) × (t < size (now nodes)) × (size (now nodes) ≤ most-nodes) ⌝ }
-    requires { ⌜ (at (needs (now nodes)) t + a < 4294967296) × (a ≤ at (needs (now nodes)) h) ⌝ }
+    requires { ⌜ (at (needs (now nodes)) t + a < word-limit) × (a ≤ at (needs (now nodes)) h) ⌝ }
     ensures { λ _. ⌜ ((v : ℕ) → at (needs (now (nodes .exit))) v + pick h v a ≡ at (needs (now (nodes .entry))) v + pick t v a) ⌝ }
     ensures { λ _. ⌜ Apart 1 (now (nodes .entry)) (now (nodes .exit)) ⌝ }
 {

@@ -34,6 +34,10 @@ high-at = 4
 abbrev pub stride : ℕ
 stride = 5
 
+-- how many values a stored number has: 2^32
+abbrev pub word-limit : ℕ
+word-limit = 4294967296
+
 -- what is added to a kink: 2^16
 abbrev pub kink-zero : ℕ
 kink-zero = 65536

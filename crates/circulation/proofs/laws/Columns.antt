@@ -14,11 +14,11 @@ use lib.ListN.{length, set, length-set}
 use lib.Seq.{getD-set-same, getD-set-other, set-getD, ext-getD}
 
 -- a node of the potentials is in the slice, and so is number k of it
-pub node-there : (nodes : List ℕ) {v u k : ℕ} → v ≡ u → u < length (potentials nodes) → length (potentials nodes) ≤ most-nodes → k < 6
-    → (v < size nodes) × (v < most-nodes) × (k < 6)
+pub node-there : (nodes : List ℕ) {v u k : ℕ} → v ≡ u → u < length (potentials nodes) → length (potentials nodes) ≤ most-nodes → k < node-stride
+    → (v < size nodes) × (v < most-nodes) × (k < node-stride)
 node-there nodes e in-it few k-in = (omega (arith, column-length 0 nodes), omega arith, k-in)
 
-module _ (k v a : ℕ) (nodes : List ℕ) (k-in : k < 6) (v-in : v < length nodes / node-stride) where
+module _ (k v a : ℕ) (nodes : List ℕ) (k-in : k < node-stride) (v-in : v < length nodes / node-stride) where
   -- a store keeps the count of nodes
   size-same : length (set nodes (node-stride * v + k) a) / node-stride ≡ length nodes / node-stride
   size-same = simp length-set refl
@@ -43,7 +43,7 @@ module _ (k v a : ℕ) (nodes : List ℕ) (k-in : k < 6) (v-in : v < length node
               ∙ (sym (column-at k nodes i l) ∙ sym (getD-set-other (column k nodes) v i a 0 ne))
 
   -- and the other columns
-  other : (j : ℕ) → j < 6 → (j ≡ k → ⊥) → column j (set nodes (node-stride * v + k) a) ≡ column j nodes
+  other : (j : ℕ) → j < node-stride → (j ≡ k → ⊥) → column j (set nodes (node-stride * v + k) a) ≡ column j nodes
   other j j-in ne = ext-getD 0 (column j (set nodes (node-stride * v + k) a)) (column j nodes)
       (column-length j (set nodes (node-stride * v + k) a) ∙ (size-same ∙ sym (column-length j nodes)))
       (λ i l. each i (omega (arith, column-length j (set nodes (node-stride * v + k) a), size-same)))

@@ -2,7 +2,7 @@
 use Rattle.network.specs.Net.{at, Net, head}
 use Rattle.network.specs.Packed.{kink-zero}
 use Rattle.circulation.specs.laws.Columns.{column-length}
-use Rattle.circulation.specs.Nodes.{column, potentials, size, potential-zero}
+use Rattle.circulation.specs.Nodes.{column, potentials, size, node-stride, potential-zero}
 use Rattle.network.specs.WellFormed.{WellFormed}
 use Rattle.circulation.specs.Input.{Feasible, Hangs, Rooted}
 use Rattle.circulation.specs.inside.Stores.{Stored, Apart}
@@ -97,7 +97,7 @@ pub zeroed-start : (nodes : List ℕ) → Zeroed 1 nodes
 zeroed-start nodes = record { zero = λ j v some few. absurd (omega arith) }
 
 -- one more number of every node is
-pub zeroed-next : {k : ℕ} {nodes new : List ℕ} → k < 6 → Zeroed k nodes → ((v : ℕ) → at (column k new) v ≡ 0)
+pub zeroed-next : {k : ℕ} {nodes new : List ℕ} → k < node-stride → Zeroed k nodes → ((v : ℕ) → at (column k new) v ≡ 0)
     → Apart k nodes new → Zeroed (k + 1) new
 zeroed-next {k} {nodes} {new} k-in z here apart = record { zero = λ j v some few. go j v some few (ℕ-discrete j k) }
   where

@@ -1,11 +1,11 @@
 -- The gap of an arc is the step at which it lets a node be reached, and a scan finds the least: case by case on which end
 -- is reached.
 use Rattle.network.specs.Net.{Net, arcs, tail, head, low, high, asks, stands}
-use Rattle.circulation.specs.inside.Search.{Enters, Leaves, Distance, Gap, GapAt, Crosses, Crossing, step}
+use Rattle.circulation.specs.inside.Search.{Enters, Leaves, Distance, never, Gap, GapAt, Crosses, Crossing, step}
 use Rattle.circulation.specs.inside.Slackness.{Small}
 use Rattle.circulation.specs.inside.Steps.{Nearest}
 use Rattle.network.specs.Limits.{kink-most}
-use Rattle.network.specs.Packed.{kink-zero}
+use Rattle.network.specs.Packed.{word-limit, kink-zero}
 use mathlib.Core.Path.{_≡_}
 use mathlib.Core.Logic.{inl, inr, ⊎-elim}
 use Prim.Native.Nat.{ℕ, _+_, _≤_, _<_}
@@ -15,13 +15,13 @@ use borrow.Author.Count.{below-none, below-more}
 
 -- where an arc stands and where it asks to stand are numbers of 32 bits
 pub sides-small : (p : ℕ → ℕ) (t h most : ℕ) {a b k : ℕ} → Small p → a ≡ p h → b ≡ p t → k ≡ most → most ≤ kink-most
-    → (a + kink-zero < 4294967296) × (b + k < 4294967296)
+    → (a + kink-zero < word-limit) × (b + k < word-limit)
 sides-small p t h most p-in ea eb ek few = (omega (arith, p-in h), omega (arith, p-in t))
 
 module _ {a b h t x l c : ℕ} where
   -- an arc that does not cross has no step
-  never : (Enters a b h t x l c → ⊥) → (Leaves a b h t x l c → ⊥) → Gap a b h t x l c 4294967296
-  never not-enters not-leaves = record {
+  no-step : (Enters a b h t x l c → ⊥) → (Leaves a b h t x l c → ⊥) → Gap a b h t x l c never
+  no-step not-enters not-leaves = record {
     some = λ l. absurd (omega arith);
     least = ⊎-elim (λ l. absurd (not-enters l)) (λ e. absurd (not-leaves e));
   }
@@ -53,12 +53,12 @@ module _ {a b h t x l c : ℕ} where
   }
 
   -- an arc between reached nodes has none
-  pub both-in : 0 < h → 0 < t → Gap a b h t x l c 4294967296
-  both-in of-head of-tail = never (λ e. omega (arith, e .to)) (λ e. omega (arith, e .to))
+  pub both-in : 0 < h → 0 < t → Gap a b h t x l c never
+  both-in of-head of-tail = no-step (λ e. omega (arith, e .to)) (λ e. omega (arith, e .to))
 
   -- nor has one between other nodes
-  pub both-out : h ≡ 0 → t ≡ 0 → Gap a b h t x l c 4294967296
-  both-out of-head of-tail = never (λ e. omega (arith, e .from)) (λ e. omega (arith, e .from))
+  pub both-out : h ≡ 0 → t ≡ 0 → Gap a b h t x l c never
+  both-out of-head of-tail = no-step (λ e. omega (arith, e .from)) (λ e. omega (arith, e .from))
 
 -- a distance, by equal numbers
 same-distance : {a a′ b b′ x x′ c c′ r : ℕ} → a ≡ a′ → b ≡ b′ → x ≡ x′ → c ≡ c′ → Distance a b x c r → Distance a′ b′ x′ c′ r
@@ -78,16 +78,16 @@ module _ (N : Net) (p x order : ℕ → ℕ) (i : ℕ) where
       → order (head N i) ≡ 0 → Distance b a c y r → GapAt N p x order i r
   gap-leave ea eb ey ec from to d = leaving from to (same-distance eb ea ec ey d)
 
--- among the first i arcs, arc has the least step, best; 2 ^ 32 where none crosses
+-- among the first i arcs, arc has the least step, best; never where none crosses
 pub record Seeking (N : Net) (p x order : ℕ → ℕ) (best arc i : ℕ) : Type 0 where
   pub in-list : i ≤ arcs N
-  pub top : best ≤ 4294967296
-  pub found : best < 4294967296 → (arc < i) × Crosses N p x order arc × (best ≡ step N p arc)
-  pub least : (j : ℕ) → j < i → Crosses N p x order j → (best ≤ step N p j) × (best < 4294967296)
+  pub top : best ≤ never
+  pub found : best < never → (arc < i) × Crosses N p x order arc × (best ≡ step N p arc)
+  pub least : (j : ℕ) → j < i → Crosses N p x order j → (best ≤ step N p j) × (best < never)
 
 module _ {N : Net} {p x order : ℕ → ℕ} where
   -- no arc is looked at yet
-  pub seek-start : Seeking N p x order 4294967296 0 0
+  pub seek-start : Seeking N p x order never 0 0
   seek-start = record { in-list = omega arith; top = omega arith; found = λ l. absurd (omega arith); least = below-none _ }
 
   module _ {best arc i r : ℕ} (s : Seeking N p x order best arc i) (l : i < arcs N) (g : GapAt N p x order i r) where
@@ -114,9 +114,9 @@ module _ {N : Net} {p x order : ℕ → ℕ} where
   -- the arc found is nearest, where some arc crosses
   pub seek-found : {best arc i : ℕ} → Seeking N p x order best arc i → arcs N ≤ i → Crossing N p x order
       → Nearest N (arcs N) p x order arc
-  seek-found {best} {arc} {i} s past some = go (decLt best 4294967296)
+  seek-found {best} {arc} {i} s past some = go (decLt best never)
     where
-      go : Dec (best < 4294967296) → Nearest N (arcs N) p x order arc
+      go : Dec (best < never) → Nearest N (arcs N) p x order arc
       go (yes few) = (
         omega (arith, s .found few .0, s .in-list),
         s .found few .1,

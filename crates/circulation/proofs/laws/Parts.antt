@@ -14,7 +14,7 @@ use lib.ListN.{length, take, drop, length-take, length-drop, length-append, List
 use lib.Seq.{getD-append-add, getD-drop, getD-take, ext-getD}
 
 -- what stands behind the last node is in no column
-column-front : (k : ℕ) (w r : List ℕ) → k < 6 → node-stride * (length w / node-stride) ≡ length w → length r < 6
+column-front : (k : ℕ) (w r : List ℕ) → k < node-stride → node-stride * (length w / node-stride) ≡ length w → length r < node-stride
     → column k (w ++ r) ≡ column k w
 column-front k w r k-in full short = ext-getD 0 (column k (w ++ r)) (column k w)
     (column-length k (w ++ r) ∙ (same-size ∙ sym (column-length k w)))
@@ -38,7 +38,7 @@ module _ (nodes₀ : List ℕ) (end : ℕ) (is-end : end ≡ node-stride * size 
   front-size = omega (arith, front-length)
 
   -- how much is behind it
-  behind : length (drop end nodes₀) < 6
+  behind : length (drop end nodes₀) < node-stride
   behind = omega (arith, length-drop end nodes₀)
 
   -- its potentials are all

@@ -12,7 +12,7 @@ use mathlib.Core.Bool.{cond}
 use Prim.Native.Nat.{ℕ, _+_, _-_, _*_, _≤_, _<_}
 use lib.Dec.{eqb}
 use lib.ListN.{length, set}
-use Rattle.network.specs.Packed.{stride, high-none, kink-zero, flow-zero}
+use Rattle.network.specs.Packed.{stride, word-limit, high-none, kink-zero, flow-zero}
 use Rattle.circulation.specs.Nodes.{need-zero}
 use Rattle.network.specs.Limits.{most-arcs}
 use Rattle.circulation.specs.Limits.{rested-limit}
@@ -47,10 +47,14 @@ CrossesBy a b h t x l c = Enters a b h t x l c ⊎ Leaves a b h t x l c
 abbrev pub apart : ℕ → ℕ → ℕ
 apart a b = (b - a) + (a - b)
 
--- r is the step of an arc that crosses, and 2 ^ 32 for any other
+-- a step that no arc has
+abbrev pub never : ℕ
+never = word-limit
+
+-- r is the step of an arc that crosses, and never for any other
 pub record Gap (stands asks of-head of-tail x low high r : ℕ) : Type 0 where
-  pub some : r < 4294967296 → CrossesBy stands asks of-head of-tail x low high × (r ≡ apart stands asks)
-  pub least : CrossesBy stands asks of-head of-tail x low high → (r ≡ apart stands asks) × (r < 4294967296)
+  pub some : r < never → CrossesBy stands asks of-head of-tail x low high × (r ≡ apart stands asks)
+  pub least : CrossesBy stands asks of-head of-tail x low high → (r ≡ apart stands asks) × (r < never)
 
 -- arc i crosses
 abbrev pub Crosses : Net → (ℕ → ℕ) → (ℕ → ℕ) → (ℕ → ℕ) → ℕ → Type 0
@@ -66,8 +70,8 @@ GapAt N p x order i r = Gap (stands N p i) (asks N p i) (order (head N i)) (orde
 
 -- from to's number to from's number is how far, and less < more: the step of an arc that crosses
 pub record Distance (from to less more r : ℕ) : Type 0 where
-  pub some : r < 4294967296 → (from ≤ to) × (less < more) × (r ≡ to - from)
-  pub least : from ≤ to → less < more → (r ≡ to - from) × (r < 4294967296)
+  pub some : r < never → (from ≤ to) × (less < more) × (r ≡ to - from)
+  pub least : from ≤ to → less < more → (r ≡ to - from) × (r < never)
 
 -- node v was reached over the arc i, which is on its kink, from a node of a lower rank; v's room is at most that node's
 -- and the arc's residual

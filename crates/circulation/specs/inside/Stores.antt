@@ -1,6 +1,6 @@
 -- What a store changes in the packed nodes, and what it leaves.
 use Rattle.network.specs.Net.{at}
-use Rattle.circulation.specs.Nodes.{column, potentials, needs, ranks, parents, rooms}
+use Rattle.circulation.specs.Nodes.{node-stride, column, potentials, needs, ranks, parents, rooms}
 use mathlib.Core.Path.{_≡_}
 use mathlib.Core.List.{List}
 use Prim.Native.Nat.{ℕ, _<_}
@@ -9,12 +9,12 @@ use lib.ListN.{length, set}
 -- the k-th number of node v became a, and no other number changed
 pub record Stored (k v a : ℕ) (old new : List ℕ) : Type 0 where
   pub same : column k new ≡ set (column k old) v a
-  pub others : (j : ℕ) → j < 6 → (j ≡ k → ⊥) → column j new ≡ column j old
+  pub others : (j : ℕ) → j < node-stride → (j ≡ k → ⊥) → column j new ≡ column j old
   pub length-same : length new ≡ length old
 
 -- only k-th numbers changed
 pub record Apart (k : ℕ) (old new : List ℕ) : Type 0 where
-  pub others : (j : ℕ) → j < 6 → (j ≡ k → ⊥) → column j new ≡ column j old
+  pub others : (j : ℕ) → j < node-stride → (j ≡ k → ⊥) → column j new ≡ column j old
   pub length-same : length new ≡ length old
 
 -- node v is reached with the rank, parent and room given

@@ -8,6 +8,7 @@ use borrow.Author.Needs.{needs}
 use Rattle.circulation.proofs.start.charge.Statement.{statement}
 use Rattle.circulation.proofs.start.charge.Tie as tie
 use Rattle.circulation.specs.Nodes.{node-stride}
+use Rattle.network.specs.Packed.{word-limit}
 
 get-requires : tie.Need-get-requires
 get-requires c κs = search needs
@@ -48,7 +49,7 @@ put-requires-2 c κs =
         c .before .get2 .ensures,
         charge-enough (start .args .nodes .now) (put .last .0) (put .last .0) (start .args .t) (start .args .h)
             (start .args .a) (get .result + start .args .a) 0 (start .pre .0 .1) (start .pre .0 .0) (start .pre .1 .1)
-            (ap (λ (b : ℕ). b + start .args .a) (get .ensures)) (put .ensures) .1 4294967296
+            (ap (λ (b : ℕ). b + start .args .a) (get .ensures)) (put .ensures) .1 word-limit
             (omega (arith, get .ensures, start .pre .1 .0))
             (omega (
               arith,
