@@ -3,6 +3,8 @@ use crate::draw::draw_case;
 use crate::hex;
 use crate::show;
 use crate::smaller;
+use sheet::limits::MAX_BYTES;
+use sheet::limits::MAX_NUMBERS;
 
 // The column where the payload starts.
 const PAYLOAD: usize = 12;
@@ -13,11 +15,11 @@ pub const PAYLOAD_BYTES: usize = 5130;
 // The numbers that a payload may have.
 const PAYLOAD_NUMBERS: usize = 2570;
 
-// The greatest room for numbers.
-const NUMBER_ROOM: usize = 2560;
+// The greatest room for numbers: one more than a sheet has.
+const NUMBER_ROOM: usize = MAX_NUMBERS + 1;
 
-// The greatest room for bytes.
-const BYTE_ROOM: usize = 5122;
+// The greatest room for bytes: one more than a sheet has.
+const BYTE_ROOM: usize = MAX_BYTES + 1;
 
 // The places that a case of the checker or of the engine may have.
 pub const PLACES: usize = 300;

@@ -50,7 +50,7 @@ fn signed(n: u32) -> i32 {
     if n < 2147483648 {
         return n as i32;
     }
-    -1 - (4294967295 - n) as i32
+    -1 - (u32::MAX - n) as i32
 }
 
 // Puts the bytes of the text, two digits each, at the start of the slice, and answers how many.
