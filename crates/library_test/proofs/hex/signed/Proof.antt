@@ -7,6 +7,7 @@ use mir.Facts.{toZ-pos}
 use mir.Syntax.{w32}
 use mir.Val.{SFits}
 use borrow.Author.Needs.{needs}
+use Rattle.arcs.specs.Words.{u32-most}
 use Rattle.library_test.proofs.hex.signed.Statement.{statement}
 use Rattle.library_test.proofs.hex.signed.Tie as tie
 
@@ -29,8 +30,8 @@ cast-result-2 c = search needs
 
 sub-result-2 : tie.Need-sub-result-2
 sub-result-2 c =
-    let small : 4294967295 - c .before .args .n < 2147483648 = omega arith in
-    rw (toZ-pos w32 small) (below (4294967295 - c .before .args .n) small)
+    let small : u32-most - c .before .args .n < 2147483648 = omega arith in
+    rw (toZ-pos w32 small) (below (u32-most - c .before .args .n) small)
 
 returns-2 : tie.Need-returns-2
 returns-2 c = search needs
