@@ -41,7 +41,8 @@ fn distance(from: usize, to: usize, less: usize, more: usize) -> usize
 pub fn gap_at(arcs: &[u32], flows: &[u32], nodes: &[u32], i: usize) -> usize
     requires { ⌜ Ready (net (now arcs) (length (now flows))) (potentials (now nodes)) (now flows) (ranks (now nodes)) ⌝ }
     requires { ⌜ i < length (now flows) ⌝ }
-    ensures { λ r. ⌜ GapAt (net (now (arcs .entry)) (length (now (flows .entry)))) (at (potentials (now (nodes .entry)))) (at (now (flows .entry))) (at (ranks (now (nodes .entry)))) i r ⌝ }
+    ensures { λ r. ⌜ GapAt (net (now (arcs .entry)) (length (now (flows .entry)))) (at (potentials (now (nodes .entry))))
+        (at (now (flows .entry))) (at (ranks (now (nodes .entry)))) i r ⌝ }
 {
     let t = tail_of(arcs, i);
     let h = head_of(arcs, i);
@@ -65,7 +66,8 @@ pub fn gap_at(arcs: &[u32], flows: &[u32], nodes: &[u32], i: usize) -> usize
 fn nearest(arcs: &[u32], flows: &[u32], nodes: &[u32]) -> usize
     requires { ⌜ Ready (net (now arcs) (length (now flows))) (potentials (now nodes)) (now flows) (ranks (now nodes)) ⌝ }
     requires { ⌜ CrossingAt (net (now arcs) (length (now flows))) (now flows) (now nodes) ⌝ }
-    ensures { λ r. ⌜ Nearest (net (now (arcs .entry)) (length (now (flows .entry)))) (length (now (flows .entry))) (at (potentials (now (nodes .entry)))) (at (now (flows .entry))) (at (ranks (now (nodes .entry)))) r ⌝ }
+    ensures { λ r. ⌜ Nearest (net (now (arcs .entry)) (length (now (flows .entry)))) (length (now (flows .entry)))
+        (at (potentials (now (nodes .entry)))) (at (now (flows .entry))) (at (ranks (now (nodes .entry)))) r ⌝ }
 {
     let mut best = NEVER;
     let mut arc = 0;
@@ -84,7 +86,8 @@ fn nearest(arcs: &[u32], flows: &[u32], nodes: &[u32]) -> usize
 // A crossing arc that is on its kink, where the hints offer one; else a number that is no arc.
 fn propose(arcs: &[u32], flows: &[u32], nodes: &[u32], chains: &mut [u32]) -> usize
     requires { ⌜ Ready (net (now arcs) (length (now flows))) (potentials (now nodes)) (now flows) (ranks (now nodes)) ⌝ }
-    ensures { λ r. ⌜ (r < length (now (flows .entry)) → GapAt (net (now (arcs .entry)) (length (now (flows .entry)))) (at (potentials (now (nodes .entry)))) (at (now (flows .entry))) (at (ranks (now (nodes .entry)))) r 0) ⌝ }
+    ensures { λ r. ⌜ (r < length (now (flows .entry)) → GapAt (net (now (arcs .entry)) (length (now (flows .entry))))
+        (at (potentials (now (nodes .entry)))) (at (now (flows .entry))) (at (ranks (now (nodes .entry)))) r 0) ⌝ }
 {
     let n = count_of(nodes);
     let mut left: usize = 65536;
@@ -107,7 +110,8 @@ fn propose(arcs: &[u32], flows: &[u32], nodes: &[u32], chains: &mut [u32]) -> us
 pub fn choose(arcs: &[u32], flows: &[u32], nodes: &[u32], chains: &mut [u32]) -> usize
     requires { ⌜ Ready (net (now arcs) (length (now flows))) (potentials (now nodes)) (now flows) (ranks (now nodes)) ⌝ }
     requires { ⌜ CrossingAt (net (now arcs) (length (now flows))) (now flows) (now nodes) ⌝ }
-    ensures { λ r. ⌜ Nearest (net (now (arcs .entry)) (length (now (flows .entry)))) (length (now (flows .entry))) (at (potentials (now (nodes .entry)))) (at (now (flows .entry))) (at (ranks (now (nodes .entry)))) r ⌝ }
+    ensures { λ r. ⌜ Nearest (net (now (arcs .entry)) (length (now (flows .entry)))) (length (now (flows .entry)))
+        (at (potentials (now (nodes .entry)))) (at (now (flows .entry))) (at (ranks (now (nodes .entry)))) r ⌝ }
 {
     let i = propose(arcs, flows, nodes, chains);
     if i < flows.len() {

@@ -53,7 +53,8 @@ pub fn source(nodes: &[u32]) -> Found
 pub fn search(arcs: &[u32], flows: &[u32], nodes: &mut [u32], chains: &mut [u32], s: usize) -> usize
     requires { ⌜ StateAt (net (now arcs) (length (now flows))) (now flows) (now nodes) ⌝ }
     requires { ⌜ (s < size (now nodes)) × (need-zero < at (needs (now nodes)) s) ⌝ }
-    ensures { λ t. ⌜ Searches (net (now (arcs .entry)) (length (now (flows .entry)))) s (now (flows .entry)) (now (nodes .entry)) (now (nodes .exit)) t ⌝ }
+    ensures { λ t. ⌜ Searches (net (now (arcs .entry)) (length (now (flows .entry)))) s
+        (now (flows .entry)) (now (nodes .entry)) (now (nodes .exit)) t ⌝ }
 {
     let room = get(nodes, s, NEED) - NEED_ZERO;
     restart(chains, count_of(nodes), s);
@@ -72,7 +73,8 @@ pub fn search(arcs: &[u32], flows: &[u32], nodes: &mut [u32], chains: &mut [u32]
 pub fn flood(arcs: &[u32], flows: &[u32], nodes: &mut [u32], chains: &mut [u32])
     requires { ⌜ StateAt (net (now arcs) (length (now flows))) (now flows) (now nodes) ⌝ }
     requires { ⌜ Rooted (net (now arcs) (length (now flows))) (size (now nodes)) ⌝ }
-    ensures { λ _. ⌜ Flooded (net (now (arcs .entry)) (length (now (flows .entry)))) (size (now (nodes .entry))) (now (flows .entry)) (now (nodes .exit)) ⌝ }
+    ensures { λ _. ⌜ Flooded (net (now (arcs .entry)) (length (now (flows .entry)))) (size (now (nodes .entry)))
+        (now (flows .entry)) (now (nodes .exit)) ⌝ }
 {
     let n = count_of(nodes);
     let g = n - 1;
@@ -106,7 +108,8 @@ fn extend(
 ) -> usize
     requires { ⌜ GrownAt (net (now arcs) (length (now flows))) s count (now flows) (now nodes) ⌝ }
     requires { ⌜ CrossingAt (net (now arcs) (length (now flows))) (now flows) (now nodes) ⌝ }
-    ensures { λ v. ⌜ Extended (net (now (arcs .entry)) (length (now (flows .entry)))) s count (now (flows .entry)) (now (nodes .entry)) (now (nodes .exit)) v ⌝ }
+    ensures { λ v. ⌜ Extended (net (now (arcs .entry)) (length (now (flows .entry)))) s count
+        (now (flows .entry)) (now (nodes .entry)) (now (nodes .exit)) v ⌝ }
 {
     let i = choose(arcs, flows, nodes, chains);
     let d = gap_at(arcs, flows, nodes, i);
@@ -120,9 +123,12 @@ fn extend(
 
 // The end of arc i that is not reached, where the other is.
 fn far(arcs: &[u32], nodes: &[u32], i: usize) -> usize
-    requires { ⌜ (stride * i + stride ≤ length (now arcs)) × (i < most-arcs) × (at (now arcs) (stride * i + head-at) < size (now nodes)) × (size (now nodes) ≤ most-nodes) ⌝ }
-    ensures { λ r. ⌜ (at (ranks (now (nodes .entry))) (at (now (arcs .entry)) (stride * i + head-at)) ≡ 0 → r ≡ at (now (arcs .entry)) (stride * i + head-at)) ⌝ }
-    ensures { λ r. ⌜ (0 < at (ranks (now (nodes .entry))) (at (now (arcs .entry)) (stride * i + head-at)) → r ≡ at (now (arcs .entry)) (stride * i + tail-at)) ⌝ }
+    requires { ⌜ (stride * i + stride ≤ length (now arcs)) × (i < most-arcs)
+        × (at (now arcs) (stride * i + head-at) < size (now nodes)) × (size (now nodes) ≤ most-nodes) ⌝ }
+    ensures { λ r. ⌜ (at (ranks (now (nodes .entry))) (at (now (arcs .entry)) (stride * i + head-at)) ≡ 0
+        → r ≡ at (now (arcs .entry)) (stride * i + head-at)) ⌝ }
+    ensures { λ r. ⌜ (0 < at (ranks (now (nodes .entry))) (at (now (arcs .entry)) (stride * i + head-at))
+        → r ≡ at (now (arcs .entry)) (stride * i + tail-at)) ⌝ }
 {
     let h = head_of(arcs, i);
     if get(nodes, h, RANK) == 0 {
@@ -135,9 +141,11 @@ fn far(arcs: &[u32], nodes: &[u32], i: usize) -> usize
 fn room_over(arcs: &[u32], flows: &[u32], nodes: &[u32], i: usize, v: usize) -> usize
     requires { ⌜ WellFormed (net (now arcs) (length (now flows))) (size (now nodes)) ⌝ }
     requires { ⌜ i < length (now flows) ⌝ }
-    requires { ⌜ (low (net (now arcs) (length (now flows))) i ≤ at (now flows) i) × (at (now flows) i ≤ high (net (now arcs) (length (now flows))) i) ⌝ }
+    requires { ⌜ (low (net (now arcs) (length (now flows))) i ≤ at (now flows) i)
+        × (at (now flows) i ≤ high (net (now arcs) (length (now flows))) i) ⌝ }
     requires { ⌜ Limited (net (now arcs) (length (now flows))) ⌝ }
-    ensures { λ r. ⌜ RoomOver (net (now (arcs .entry)) (length (now (flows .entry)))) (at (now (flows .entry))) (at (rooms (now (nodes .entry)))) i v r ⌝ }
+    ensures { λ r. ⌜ RoomOver (net (now (arcs .entry)) (length (now (flows .entry)))) (at (now (flows .entry)))
+        (at (rooms (now (nodes .entry)))) i v r ⌝ }
     ensures { λ r. ⌜ r < word-limit ⌝ }
 {
     let t = tail_of(arcs, i);

@@ -30,7 +30,9 @@ ghost use Rattle.circulation.specs.Nodes.{«need-zero», needs, potentia
 // The flows to start with.
 pub fn saturate(arcs: &[u32], flows: &mut [u32], nodes: &[u32])
     requires { ⌜ Valid (net (now arcs) (length (now flows))) (size (now nodes)) (potentials (now nodes)) ⌝ }
-    ensures { λ _. ⌜ ((i : ℕ) → i < length (now (flows .entry)) → FilledAt (net (now (arcs .entry)) (length (now (flows .entry)))) (at (potentials (now (nodes .entry)))) i (at (now (flows .exit)) i)) ⌝ }
+    ensures { λ _. ⌜ ((i : ℕ) → i < length (now (flows .entry))
+        → FilledAt (net (now (arcs .entry)) (length (now (flows .entry)))) (at (potentials (now (nodes .entry)))) i
+        (at (now (flows .exit)) i)) ⌝ }
 {
     let m = flows.len();
     let mut i = 0;
@@ -73,7 +75,11 @@ fn filled(stands: usize, asks: usize, low: usize, high: usize) -> usize
 pub fn count_need(arcs: &[u32], flows: &[u32], nodes: &mut [u32])
     requires { ⌜ WellFormed (net (now arcs) (length (now flows))) (size (now nodes)) ⌝ }
     requires { ⌜ ((i : ℕ) → i < length (now flows) → (low-least ≤ at (now flows) i) × (at (now flows) i ≤ high-most)) ⌝ }
-    ensures { λ _. ⌜ ((v : ℕ) → v < size (now (nodes .entry)) → at (needs (now (nodes .exit))) v + inflow (net (now (arcs .entry)) (length (now (flows .entry)))) (length (now (flows .entry))) (at (now (flows .entry))) v ≡ need-zero + outflow (net (now (arcs .entry)) (length (now (flows .entry)))) (length (now (flows .entry))) (at (now (flows .entry))) v) ⌝ }
+    ensures { λ _. ⌜ ((v : ℕ) → v < size (now (nodes .entry))
+        → at (needs (now (nodes .exit))) v
+        + inflow (net (now (arcs .entry)) (length (now (flows .entry)))) (length (now (flows .entry))) (at (now (flows .entry))) v
+        ≡ need-zero
+        + outflow (net (now (arcs .entry)) (length (now (flows .entry)))) (length (now (flows .entry))) (at (now (flows .entry))) v) ⌝ }
     ensures { λ _. ⌜ Apart 1 (now (nodes .entry)) (now (nodes .exit)) ⌝ }
 {
     fill(nodes, NEED, NEED_ZERO);

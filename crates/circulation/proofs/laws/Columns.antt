@@ -14,8 +14,8 @@ use lib.ListN.{length, set, length-set}
 use lib.Seq.{getD-set-same, getD-set-other, set-getD, ext-getD}
 
 -- a node of the potentials is in the slice, and so is number k of it
-pub node-there : (nodes : List ℕ) {v u k : ℕ} → v ≡ u → u < length (potentials nodes) → length (potentials nodes) ≤ most-nodes → k < node-stride
-    → (v < size nodes) × (v < most-nodes) × (k < node-stride)
+pub node-there : (nodes : List ℕ) {v u k : ℕ} → v ≡ u → u < length (potentials nodes) → length (potentials nodes) ≤ most-nodes
+    → k < node-stride → (v < size nodes) × (v < most-nodes) × (k < node-stride)
 node-there nodes e in-it few k-in = (omega (arith, column-length 0 nodes), omega arith, k-in)
 
 module _ (k v a : ℕ) (nodes : List ℕ) (k-in : k < node-stride) (v-in : v < length nodes / node-stride) where
@@ -26,7 +26,8 @@ module _ (k v a : ℕ) (nodes : List ℕ) (k-in : k < node-stride) (v-in : v < l
   -- the column of the store
   same : column k (set nodes (node-stride * v + k) a) ≡ set (column k nodes) v a
   same = ext-getD 0 (column k (set nodes (node-stride * v + k) a)) (set (column k nodes) v a)
-      (column-length k (set nodes (node-stride * v + k) a) ∙ (size-same ∙ (sym (column-length k nodes) ∙ sym (length-set (column k nodes) v a))))
+      (column-length k (set nodes (node-stride * v + k) a)
+      ∙ (size-same ∙ (sym (column-length k nodes) ∙ sym (length-set (column k nodes) v a))))
       (λ i l. each i (omega (arith, column-length k (set nodes (node-stride * v + k) a), size-same)))
     where
       each : (i : ℕ) → i < length nodes / node-stride
@@ -93,7 +94,8 @@ module _ {k a : ℕ} {nodes₀ : List ℕ} where
     only = apart-next (f .only) s;
     filled = below-more _ v
         (λ u below. ap (λ (o : List ℕ). at o u) (s .same) ∙ (getD-set-other (column k nodes) v u a 0 (omega arith) ∙ f .filled u below))
-        (ap (λ (o : List ℕ). at o v) (s .same) ∙ getD-set-same (column k nodes) v a 0 (omega (arith, column-length k nodes, f .only .length-same)));
+        (ap (λ (o : List ℕ). at o v) (s .same)
+        ∙ getD-set-same (column k nodes) v a 0 (omega (arith, column-length k nodes, f .only .length-same)));
   }
 
 -- a column that is filled with 0 is 0 everywhere

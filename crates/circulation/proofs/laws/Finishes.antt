@@ -30,8 +30,21 @@ module _ (N : Net) (n : ℕ) (p : ℕ → ℕ) (wf : WellFormed N n) (rooted : R
     where
       step : Hangs N (n - 1) v → ((u : ℕ) → u < v → p (n - 1) ≤ p u + kink-zero * (u + 1)) → p (n - 1) ≤ p v + kink-zero * (v + 1)
       step h before = ⊎-elim
-          (λ c. omega (arith, ap p c, ap p (h .by .from), met .not-right (h .arc) (h .arc-in) (h .by .hard), wf .arc-in (h .arc) (h .arc-in) .kink-high))
-          (λ c. omega (arith, c, before (head N (h .arc)) c, ap p (h .by .from), met .not-right (h .arc) (h .arc-in) (h .by .hard), wf .arc-in (h .arc) (h .arc-in) .kink-high))
+          (λ c. omega (
+            arith,
+            ap p c,
+            ap p (h .by .from),
+            met .not-right (h .arc) (h .arc-in) (h .by .hard),
+            wf .arc-in (h .arc) (h .arc-in) .kink-high,
+          ))
+          (λ c. omega (
+            arith,
+            c,
+            before (head N (h .arc)) c,
+            ap p (h .by .from),
+            met .not-right (h .arc) (h .arc-in) (h .by .hard),
+            wf .arc-in (h .arc) (h .arc-in) .kink-high,
+          ))
           (h .by .to)
 
   -- no node is more than 2^28 left of ground

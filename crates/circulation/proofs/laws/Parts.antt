@@ -85,10 +85,12 @@ module _ (nodes₀ : List ℕ) (end : ℕ) (is-end : end ≡ node-stride * size 
         kept i past =
             let far : length w + (i - end) ≡ i = omega (arith, front-length) in
             let near : end + (i - end) ≡ i = omega arith in
-            ap (at (w ++ drop end nodes₀)) (sym far) ∙ (getD-append-add w (drop end nodes₀) (i - end) 0 ∙ (getD-drop end nodes₀ (i - end) 0 ∙ ap (at nodes₀) near))
+            ap (at (w ++ drop end nodes₀)) (sym far)
+            ∙ (getD-append-add w (drop end nodes₀) (i - end) 0 ∙ (getD-drop end nodes₀ (i - end) 0 ∙ ap (at nodes₀) near))
 
     -- the answer, from what the front holds
-    pub solved-back : {N : Net} (x₀ x chains₀ chains : List ℕ) → Valid N (size nodes₀) (potentials nodes₀) → length x ≡ length x₀ → length chains ≡ length chains₀
+    pub solved-back : {N : Net} (x₀ x chains₀ chains : List ℕ) → Valid N (size nodes₀) (potentials nodes₀)
+        → length x ≡ length x₀ → length chains ≡ length chains₀
         → Solution N (size (take (end - 0) nodes₀)) (at x) (at (potentials w)) → Zeroed node-stride w → ((i : ℕ) → at chains i ≡ 0)
         → Means N x₀ nodes₀ chains₀ x (w ++ postOf 0 (end - 0) nodes₀) chains Finding.solved
     solved-back {N} x₀ x chains₀ chains v x-same chains-same s z zeros =
@@ -96,5 +98,6 @@ module _ (nodes₀ : List ℕ) (end : ℕ) (is-end : end ≡ node-stride * size 
           v,
           x-same,
           cleared z chains-same zeros,
-          subst (λ (p : List ℕ). Solution N (size nodes₀) (at x) (at p)) (sym back-potentials) (subst (λ (n : ℕ). Solution N n (at x) (at (potentials w))) front-size s),
+          subst (λ (p : List ℕ). Solution N (size nodes₀) (at x) (at p)) (sym back-potentials)
+              (subst (λ (n : ℕ). Solution N n (at x) (at (potentials w))) front-size s),
         )

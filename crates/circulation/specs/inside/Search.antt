@@ -184,4 +184,5 @@ pub record Walked (N : Net) (s t d : ℕ) (p e x₀ x : List ℕ) : Type 0 where
   pub size-same : length x ≡ length x₀
   pub slack : Slack N (at p) (at x)
   pub steps : (i : ℕ) → (at x i ≤ at x₀ i + d) × (at x₀ i ≤ at x i + d)
-  pub moved : (y : ℕ) → y < length p → at e y + inflow N (arcs N) (at x) y + pick t y d ≡ need-zero + outflow N (arcs N) (at x) y + pick s y d
+  pub moved : (y : ℕ) → y < length p
+      → at e y + inflow N (arcs N) (at x) y + pick t y d ≡ need-zero + outflow N (arcs N) (at x) y + pick s y d
