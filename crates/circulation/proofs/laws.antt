@@ -9,7 +9,7 @@ pub mod Finishes
 pub mod Floods
 pub mod Flows
 pub mod Gaps
-pub mod Lowest
+pub mod Leftmost
 pub mod Meaning
 pub mod Moves
 pub mod Parts

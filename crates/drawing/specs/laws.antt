@@ -13,11 +13,7 @@ pub mod ArcLimits
 pub mod Extents
 pub mod Shift
 pub mod LeastAssignment
-pub mod Constraints
-pub mod TightConstraints
-pub mod Held
-pub mod HeldSearch
-pub mod HeldOnly
+pub mod LeftmostTest
 pub mod Unique
 pub mod Rows
 pub mod Table

@@ -14,6 +14,10 @@ pub mod NoSolution
 pub mod Certified
 pub mod UpperBounds
 pub mod Differences
+pub mod Residuals
+pub mod Held
+pub mod HeldSearch
+pub mod HeldOnly
 pub mod PackedBack
 pub mod Hanging
 pub mod PackedLegal

@@ -1,47 +1,19 @@
--- A search without a goal: where every node is reached, each stands as low over the source as in any potentials that fit
--- the flows; and a network whose nodes hang on hard arcs is reached whole.
-use Rattle.network.specs.Net.{at, Net, arcs, tail, head, low, high, asks, stands, HardHigh, HardLow}
+-- A search without a goal reaches every node of a network whose nodes hang on hard arcs.
+use Rattle.network.specs.Net.{at, Net, arcs, head, asks, stands, HardHigh, HardLow}
 use Rattle.network.specs.laws.SumsTo.{sum-to-eq, sum-to-zero, sum-to-ge}
 use Rattle.circulation.specs.inside.Slackness.{Slack}
-use Rattle.network.specs.WellFormed.{WellFormed}
 use Rattle.circulation.specs.Input.{Feasible, Hangs, Rooted}
-use Rattle.circulation.specs.inside.Search.{Tree, Link, Crosses, Crossing, Grown}
+use Rattle.circulation.specs.inside.Search.{Crosses, Crossing, Grown}
 use mathlib.Core.Path.{_≡_, ap, _∙_}
 use mathlib.Core.Logic.{inl, ⊎-elim}
 use mathlib.Core.Bool.{cond}
 use mathlib.Core.List.{List}
-use Prim.Native.Nat.{ℕ, zero, suc, _+_, _-_, _≤_, _<_}
+use Prim.Native.Nat.{ℕ, zero, suc, _-_, _≤_, _<_}
 use lib.Dec.{eqb}
 use lib.ListN.{length}
 use borrow.Author.Tests.{eq-eqb, ne-eqb}
 use native.Mathlib.Decide.{ℕ-discrete, decLt}
 use native.Mathlib.Omega.{arith}
-
-module _ (N : Net) (n s : ℕ) (p q x order via room : ℕ → ℕ) (wf : WellFormed N n) (tree : Tree N n s p x order via room)
-    (all : (v : ℕ) → v < n → 0 < order v)
-    (not-right : (i : ℕ) → i < arcs N → x i < high N i → stands N q i ≤ asks N q i) (not-left : (i : ℕ) → i < arcs N → low N i < x i → asks N q i ≤ stands N q i) where
-  -- the law below, for nodes of rank at most k
-  lowest-to : (k v : ℕ) → v < n → order v ≤ k → p v + q s ≤ q v + p s
-  lowest-to zero v l r = absurd (omega (arith, all v l))
-  lowest-to (suc k) v l r = elim (ℕ-discrete v s) [
-    | yes e ↦ omega (arith, ap p e, ap q e)
-    | no ne ↦ step (tree .links v l (all v l) ne)
-        (λ i a b. lowest-to k (head N i) (wf .arc-in i a .head-in) (omega arith))
-        (λ i a b. lowest-to k (tail N i) (wf .arc-in i a .tail-in) (omega arith))
-  ]
-    where
-      step : Link N p x order room v (via v)
-          → ((i : ℕ) → i < arcs N → order (head N i) < order v → p (head N i) + q s ≤ q (head N i) + p s)
-          → ((i : ℕ) → i < arcs N → order (tail N i) < order v → p (tail N i) + q s ≤ q (tail N i) + p s)
-          → p v + q s ≤ q v + p s
-      step k h t = ⊎-elim
-          (λ c. omega (arith, k .tight, ap p (c .0), ap q (c .0), not-right (via v) (k .arc-in) (omega (arith, c .3, k .some)), h (via v) (k .arc-in) (c .2)))
-          (λ c. omega (arith, k .tight, ap p (c .0), ap q (c .0), not-left (via v) (k .arc-in) (omega (arith, c .3, k .some)), t (via v) (k .arc-in) (c .2)))
-          (k .ends)
-
-  -- each node is as low over s as in any other potentials q that fit the flows
-  pub lowest : (v : ℕ) → v < n → p v + q s ≤ q v + p s
-  lowest v l = lowest-to (order v) v l (omega arith)
 
 module _ (N : Net) (n s : ℕ) (p x order : ℕ → ℕ) (slack : Slack N p x) (met : Feasible N p) (root : 0 < order s)
     (hangs : (v : ℕ) → v < n → (v ≡ s → ⊥) → Hangs N s v)

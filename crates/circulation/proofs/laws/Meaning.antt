@@ -120,7 +120,7 @@ module _ (N : Net) (n : ℕ) (p x : ℕ → ℕ) (wf : WellFormed N n) (slack : 
   ))
 
   -- the parts of a potential
-  pub potential-parts : (v : ℕ) → v < n → up (potential (relative n p) v) + p (n - 1) ≡ down (potential (relative n p) v) + p v
+  potential-parts : (v : ℕ) → v < n → up (potential (relative n p) v) + p (n - 1) ≡ down (potential (relative n p) v) + p v
   unfolding up down
   potential-parts v l = go (ℕ-discrete v (n - 1))
     where
@@ -129,7 +129,7 @@ module _ (N : Net) (n : ℕ) (p x : ℕ → ℕ) (wf : WellFormed N n) (slack : 
       go (no ne) = rw (upto-in (pos 0) (n - 1) (λ v. pos (p v) -ℤ pos (p (n - 1))) v (omega arith)) (less-parts (p v) (p (n - 1)))
 
   -- how far past its kink an arc is
-  off-parts : (i : ℕ) → i < arcs N
+  pub off-parts : (i : ℕ) → i < arcs N
       → up (past-kink (relative n p) (arc-at (N .list) i)) + asks N p i ≡ down (past-kink (relative n p) (arc-at (N .list) i)) + stands N p i
   off-parts i l = omega (
     arith,

@@ -4,7 +4,7 @@ use Rattle.circulation.specs.inside.Steps.{StateAt, Flooded}
 use Rattle.circulation.specs.Nodes.{size, node-stride}
 use Rattle.network.specs.Net.{net}
 use Rattle.circulation.specs.Input.{Rooted}
-use Rattle.circulation.proofs.laws.Lowest.{flooded-solution}
+use Rattle.circulation.proofs.laws.Leftmost.{flooded-solution}
 use Rattle.circulation.proofs.laws.Finishes.{flooded-grounded}
 use lib.ListN.{length}
 use mathlib.Core.Path.{subst, sym, ap, _∙_}

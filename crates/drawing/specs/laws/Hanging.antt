@@ -10,15 +10,16 @@ use lib.ListN.{length, getD, drop}
 use lib.Signed.{_≤ℤ_, leZ-yes}
 use Rattle.leb128.specs.laws.Cases.{lt-or-le, eq-or-ne}
 use Rattle.network.specs.Sums.{all}
-use Rattle.network.specs.Network.{Arc, Feasible, integers, upper-bound}
+use Rattle.network.specs.Network.{Arc, Feasible, LeftmostLeast, integers, upper-bound}
 use Rattle.network.specs.Integers.{up}
 use Rattle.network.specs.laws.Tests.{and-left}
+use Rattle.network.specs.laws.Models.{leftmost-models}
 use Rattle.network.specs.laws.Hanging.{Hook, Hangs, hook-first, hook-second, natural-potentials}
 use Rattle.sheet.specs.Layout.{layers-at, first-layer-at, nodes-at, separations-at, separation-stride, minimum-at, maximum-at, next-layer}
 use Rattle.drawing.specs.Sheet.{Pair, Layer, pairs-of, layers-of, first-nodes, sheet-of}
-use Rattle.drawing.specs.Drawing.{Drawing}
+use Rattle.drawing.specs.Drawing.{Drawing, total-length, LeftmostDrawing}
 use Rattle.drawing.specs.Arcs.{edge-arc, minimum-arc, maximum-arc, separation-arcs, layer-arcs, network}
-use Rattle.drawing.specs.laws.SameDrawings.{feasible-drawing}
+use Rattle.drawing.specs.laws.SameDrawings.{feasible-drawing, drawings-modelled}
 
 -- a number that is taken away is not positive
 minus-le : (n : ℕ) → negℤ (pos n) ≤ℤ pos 0
@@ -108,3 +109,8 @@ pub solution-drawing : (s : List ℕ) (q : List ℤ) → Feasible (network (shee
 solution-drawing s q f =
     let e = natural-potentials (sheet-hangs s) q f in
     (e, feasible-drawing s (map up q) (subst (Feasible (network (sheet-of s))) (sym e) f))
+
+-- the leftmost least drawing is leftmost among the least in the network
+pub drawing-leftmost : (s p : List ℕ) → LeftmostDrawing (sheet-of s) p → LeftmostLeast (network (sheet-of s)) (integers p)
+drawing-leftmost s =
+    leftmost-models (Drawing (sheet-of s)) (total-length (sheet-of s)) (drawings-modelled s) (λ q d. solution-drawing s q d .0)

@@ -10,16 +10,19 @@ use Rattle.leb128.specs.Format.{Result, reading}
 use Rattle.leb128.specs.Format.Result.{elements, refused}
 use Rattle.sheet.specs.Reading.{read-sheet}
 use Rattle.network.specs.Sums.{all}
+use Rattle.network.specs.Network.{integers}
+use Rattle.network.specs.laws.HeldOnly.{leftmost-test}
 use Rattle.network.specs.laws.Tests.{and-left, and-right, is-true, is-false}
 use Rattle.drawing.specs.Sheet.{Sheet, sheet-of}
 use Rattle.drawing.specs.Drawing.{total-length}
 use Rattle.drawing.specs.Certificate.{certificate-size}
 use Rattle.drawing.specs.Judged.{judged}
+use Rattle.drawing.specs.Arcs.{network}
 use Rattle.drawing.specs.Rows.{Outcome, Row, Says, RowHolds, Every}
 use Rattle.drawing.specs.Rows.Outcome.{drawn, undrawable, rejected}
 use Rattle.drawing.specs.laws.Judged.{judged-accepted}
 use Rattle.drawing.specs.laws.NoDrawing.{shows-none, no-drawing}
-use Rattle.drawing.specs.laws.HeldOnly.{leftmost-test, test-leftmost}
+use Rattle.drawing.specs.laws.LeftmostTest.{test-drawing}
 
 -- the list has a number for each edge and two for each node
 abbrev pub whole-list : Sheet → List ℤ → Bool
@@ -29,7 +32,8 @@ whole-list S list = eqb (length list) (certificate-size S)
 abbrev pub passes : List ℕ → Outcome → Bool
 passes numbers (drawn total coordinates list) =
     whole-list (sheet-of numbers) list
-    && ((judged (sheet-of numbers) coordinates list && leftmost-test (sheet-of numbers) coordinates list) && eqb (total-length (sheet-of numbers) coordinates) total)
+    && ((judged (sheet-of numbers) coordinates list && leftmost-test (network (sheet-of numbers)) list (integers coordinates))
+    && eqb (total-length (sheet-of numbers) coordinates) total)
 passes numbers (undrawable list) = whole-list (sheet-of numbers) list && shows-none (sheet-of numbers) list
 passes numbers (rejected coordinates list) =
     whole-list (sheet-of numbers) list
@@ -40,13 +44,13 @@ passes-says : (numbers : List ℕ) (o : Outcome) → T (passes numbers o) → Sa
 passes-says numbers (drawn total coordinates list) t =
     let S : Sheet = sheet-of numbers in
     let least : Bool = judged S coordinates list in
-    let leftmost : Bool = leftmost-test S coordinates list in
+    let leftmost : Bool = leftmost-test (network S) list (integers coordinates) in
     let equal : Bool = eqb (total-length S coordinates) total in
     let rest : T ((least && leftmost) && equal) = and-right (whole-list S list) ((least && leftmost) && equal) t in
     let both : T (least && leftmost) = and-left (least && leftmost) equal rest in
     record {
       leftmost =
-          test-leftmost numbers coordinates list
+          test-drawing numbers coordinates list
           (judged-accepted numbers coordinates list (and-left least leftmost both)) (and-right least leftmost both);
       sum = eqb→eq (total-length S coordinates) total (and-right (least && leftmost) equal rest);
       list-size = eqb→eq (length list) (certificate-size S) (and-left (whole-list S list) ((least && leftmost) && equal) t);

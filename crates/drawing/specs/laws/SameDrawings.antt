@@ -169,7 +169,7 @@ module _ (s p : List ℕ) where
       }
 
 -- the network of a sheet models its drawings and their totals
-drawings-modelled : (s : List ℕ) → Models (Drawing (sheet-of s)) (total-length (sheet-of s)) (network (sheet-of s)) (pos 0)
+pub drawings-modelled : (s : List ℕ) → Models (Drawing (sheet-of s)) (total-length (sheet-of s)) (network (sheet-of s)) (pos 0)
 drawings-modelled s = record {
   feasible = drawing-feasible (sheet-of s);
   candidate = feasible-drawing s;

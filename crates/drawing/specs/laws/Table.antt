@@ -7,19 +7,23 @@ use Rattle.leb128.specs.Walk.{checked, led, followed, walk}
 use Rattle.leb128.specs.Format.{same, complete, walk-bytes, made, reading}
 use Rattle.sheet.specs.Reading.{read-sheet}
 use Rattle.sheet.specs.Grammar.{crossed, separation, separations, layers, edge, edges, sheet}
+use Rattle.network.specs.laws.Residuals.{residuals}
+use Rattle.network.specs.laws.HeldSearch.{held-set}
+use Rattle.network.specs.laws.HeldOnly.{leftmost-test}
 use Rattle.drawing.specs.Sheet.{sheet-of}
 use Rattle.drawing.specs.Drawing.{is-drawing, total-length}
 use Rattle.drawing.specs.Certificate.{meets-rules, bound}
 use Rattle.drawing.specs.Judged.{judged}
+use Rattle.drawing.specs.Arcs.{network}
 use Rattle.drawing.specs.Rows.{Every}
 use Rattle.drawing.specs.Table.{table}
 use Rattle.drawing.specs.laws.NoDrawing.{shows-none}
-use Rattle.drawing.specs.laws.Constraints.{constraints}
-use Rattle.drawing.specs.laws.HeldSearch.{held-set}
-use Rattle.drawing.specs.laws.HeldOnly.{leftmost-test}
 use Rattle.drawing.specs.laws.Rows.{every}
 
 -- every row holds
 pub sheets : Every table
-unfolding flatMap table sheet-of total-length is-drawing meets-rules bound judged constraints held-set leftmost-test shows-none decode grouped within both crossed separation separations layers edge edges sheet decoded-item byte-item raised in-bytes checked led followed walk same complete walk-bytes made reading read-sheet
+unfolding
+    flatMap table sheet-of total-length is-drawing meets-rules bound judged network residuals held-set leftmost-test shows-none
+    decode grouped within both crossed separation separations layers edge edges sheet
+    decoded-item byte-item raised in-bytes checked led followed walk same complete walk-bytes made reading read-sheet
 sheets = every table tt

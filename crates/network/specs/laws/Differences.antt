@@ -4,28 +4,11 @@ use Prim.Native.Nat.{ℕ, zero, suc, _≤_, zero-le}
 use mathlib.Core.Bool.{not}
 use native.Mathlib.Omega.{arith}
 use lib.Dec.{T, T-not, leb→le, le→leb}
-use lib.IntN.{ℤ, pos, negsuc, negℤ, _+ℤ_, _-ℤ_}
+use lib.IntN.{ℤ, pos, negsuc}
 use lib.Signed.{_≤ℤ_, leZ-yes}
 use Rattle.network.specs.Network.{reached, Arc}
-use Rattle.network.specs.Flows.{tight-at, tight}
-use Rattle.network.specs.laws.IntegerParts.{le-parts, parts-le, up-neg, down-neg, sum-parts}
-use Rattle.network.specs.Integers.{down, up}
+use Rattle.network.specs.Flows.{tight-at}
 use Rattle.network.specs.laws.Tests.{not-not}
-
-module _ (h t k : ℤ) where
-  -- a tension that is not past the kink, as a difference of potentials
-  not-past : ((h -ℤ t) -ℤ k) ≤ℤ pos 0 → (h -ℤ k) ≤ℤ t
-  unfolding up down
-  not-past le =
-      parts-le (h -ℤ k) t
-      (omega (arith, le-parts le, sum-parts (h -ℤ t) (negℤ k), sum-parts h (negℤ t), sum-parts h (negℤ k), up-neg t, down-neg t, up-neg k, down-neg k))
-
-  -- a tension that is not before the kink
-  not-before : pos 0 ≤ℤ ((h -ℤ t) -ℤ k) → (t +ℤ k) ≤ℤ h
-  unfolding up down
-  not-before le =
-      parts-le (t +ℤ k) h
-      (omega (arith, le-parts le, sum-parts (h -ℤ t) (negℤ k), sum-parts h (negℤ t), sum-parts t k, up-neg t, down-neg t, up-neg k, down-neg k))
 
 module _ (a : Arc) (y : ℤ) where
   -- a tight arc whose flow is not the high limit is not past its kink

@@ -4,18 +4,17 @@ use Prim.Native.Nat.{ℕ, zero, suc, _+_, _<_, _≤_}
 use mathlib.Core.Path.{_≡_, refl, sym, _∙_, ap, ap₂}
 use mathlib.Core.Bool.{Bool}
 use mathlib.Core.List.{List, [], _∷_, _++_, map}
-use native.Mathlib.Nat.{add-zero, le-of-suc-le-suc, not-suc-le-zero}
+use native.Mathlib.Nat.{le-of-suc-le-suc, not-suc-le-zero}
 use native.Mathlib.Numerals.{add-one}
 use native.Mathlib.Omega.{arith}
 use lib.Dec.{T}
-use lib.IntN.{ℤ, pos, _+ℤ_, +ℤ-idr}
-use lib.ListN.{length, getD, drop, take, length-append, length-map, List·getD-eq-default}
-use lib.Seq.{getD-drop, take-suc}
-use Rattle.network.specs.Sums.{sum, sumℕ, all, upto}
+use lib.IntN.{ℤ, pos}
+use lib.ListN.{length, getD, drop, length-append, List·getD-eq-default}
+use lib.Seq.{getD-drop}
+use Rattle.network.specs.Sums.{sum, all, upto}
 use Rattle.network.specs.Network.{Arc}
 use Rattle.network.specs.Flows.{Flow, flows}
 use Rattle.network.specs.laws.Tests.{and-left, and-right, and-both, all-append}
-use Rattle.network.specs.laws.Sums.{sum-append, sumℕ-append}
 
 module _ {A : Type 0} where
   -- one more element
@@ -53,37 +52,10 @@ module _ {A : Type 0} where
   at-all t [] d f = tt
   at-all t (x ∷ xs) d f = and-both (t x) (all t xs) (f 0 (omega arith)) (at-all t xs d (λ i h. f (suc i) (omega arith)))
 
-  -- one more term of a sum
-  pub sum-suc : (f : A → ℤ) (xs : List A) (d : A) (i : ℕ) → i < length xs
-      → sum f (take (suc i) xs) ≡ sum f (take i xs) +ℤ f (getD xs i d)
-  sum-suc f xs d i h =
-      ap (sum f) (take-suc xs i d h) ∙ sum-append f (take i xs) (getD xs i d ∷ [])
-      ∙ ap (λ (z : ℤ). sum f (take i xs) +ℤ z) (+ℤ-idr (f (getD xs i d)))
-
-  -- the same in natural numbers
-  pub sumℕ-suc : (f : A → ℕ) (xs : List A) (d : A) (i : ℕ) → i < length xs
-      → sumℕ f (take (suc i) xs) ≡ sumℕ f (take i xs) + f (getD xs i d)
-  sumℕ-suc f xs d i h =
-      ap (sumℕ f) (take-suc xs i d h) ∙ sumℕ-append f (take i xs) (getD xs i d ∷ [])
-      ∙ ap (λ (n : ℕ). sumℕ f (take i xs) + n) (add-zero (f (getD xs i d)))
-
 -- the flows are on the arcs, one on each
 pub flows-on : (arcs : List Arc) (y : List ℤ) → map (λ f. f .on) (flows arcs y) ≡ arcs
 flows-on [] y = refl
 flows-on (a ∷ arcs) y = ap (λ (l : List Arc). a ∷ l) (flows-on arcs (drop 1 y))
-
--- as many flows as arcs
-pub length-flows : (arcs : List Arc) (y : List ℤ) → length (flows arcs y) ≡ length arcs
-length-flows arcs y = sym (length-map (flows arcs y) (λ f. f .on)) ∙ ap length (flows-on arcs y)
-
--- flow i is number i on arc i
-pub flows-at : (arcs : List Arc) (y : List ℤ) (a : Arc) (f : Flow) (i : ℕ) → i < length arcs
-    → getD (flows arcs y) i f ≡ record { on = getD arcs i a; amount = getD y i (pos 0) }
-flows-at [] y a f i h = absurd (not-suc-le-zero h)
-flows-at (b ∷ arcs) y a f zero h = refl
-flows-at (b ∷ arcs) y a f (suc i) h =
-    flows-at arcs (drop 1 y) a f i (le-of-suc-le-suc h)
-    ∙ ap (λ (x : ℤ). record { on = getD arcs i a; amount = x }) (getD-drop 1 y i (pos 0) ∙ ap (λ (n : ℕ). getD y n (pos 0)) (omega arith))
 
 -- the flows on arcs that are given by index: number i on arc i
 pub flows-upto : (f : ℕ → Arc) (y : List ℤ) (n : ℕ)

@@ -106,11 +106,6 @@ module _ {A : Type 0} where
   pub all-map : (s t : A → Bool) → ((x : A) → T (s x) → T (t x)) → (xs : List A) → T (all s xs) → T (all t xs)
   all-map s t e xs a = all-map₂ s s t (λ x i j. e x i) xs a a
 
-  -- tests that are equal where another passes
-  pub all-ext₂ : (s t r : A → Bool) → ((x : A) → T (s x) → t x ≡ r x) → (xs : List A) → T (all s xs) → all t xs ≡ all r xs
-  all-ext₂ s t r e [] a = refl
-  all-ext₂ s t r e (x ∷ xs) a = ap₂ _&&_ (e x (and-left (s x) (all s xs) a)) (all-ext₂ s t r e xs (and-right (s x) (all s xs) a))
-
   -- tests that are equal
   pub all-ext : (s t : A → Bool) → ((x : A) → s x ≡ t x) → (xs : List A) → all s xs ≡ all t xs
   all-ext s t e xs = ap (λ (r : A → Bool). all r xs) (fun-ext e)
