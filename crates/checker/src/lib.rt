@@ -13,7 +13,6 @@ use leb128::refusals::SLICE_SHORT;
 ghost use mathlib.Core.Path.{_≡_};
 ghost use Rattle.leb128.specs.Source.{refusal};
 ghost use Rattle.leb128.specs.Refusals.{«slice-short»};
-ghost use Rattle.sheet.specs.Grammar.{sheet};
 ghost use Rattle.sheet.specs.Reading.{«read-sheet»};
 ghost use Rattle.checker.specs.Verdict.{judgement, decided, «check-answer»};
 ghost use Rattle.checker.specs.Shown.{ShownLeast};

@@ -21,7 +21,7 @@ use crate::nodes::least;
 use crate::nodes::put;
 use crate::raise::raise_reached;
 ghost use mathlib.Core.Path.{_≡_};
-ghost use Prim.Native.Nat.{ℕ, _+_, _*_, _≤_, _<_};
+ghost use Prim.Native.Nat.{_+_, _*_, _≤_, _<_};
 ghost use lib.ListN.{length};
 ghost use Rattle.circulation.specs.inside.Stores.{Begun, Reaches};
 ghost use Rattle.circulation.specs.inside.Steps.{CrossingAt, Extended, Flooded, GrownAt, Searches, Source, StateAt};

@@ -6,7 +6,6 @@ use mathlib.Core.List.{List, [], _∷_}
 use lib.IntN.{ℤ}
 use lib.ListN.{length}
 use Rattle.leb128.specs.Format.Result.{elements}
-use Rattle.sheet.specs.Grammar.{sheet}
 use Rattle.sheet.specs.Reading.{read-sheet}
 use Rattle.drawing.specs.Sheet.{Sheet, sheet-of}
 use Rattle.drawing.specs.Drawing.{Drawing, total-length, LeftmostDrawing}

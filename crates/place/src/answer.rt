@@ -7,7 +7,6 @@ ghost use mathlib.Core.Path.{_≡_};
 ghost use Prim.Native.Nat.{_≤_};
 ghost use lib.ListN.{length};
 ghost use Rattle.leb128.specs.Format.{outcome};
-ghost use Rattle.sheet.specs.Grammar.{sheet};
 ghost use Rattle.sheet.specs.Reading.{«read-sheet»};
 ghost use Rattle.engine.specs.Draws.{result};
 ghost use Rattle.report.specs.Limits.{«max-text»};

@@ -8,7 +8,6 @@ use crate::words::verdict_word;
 ghost use mathlib.Core.Path.{_≡_};
 ghost use lib.ListN.{length};
 ghost use Rattle.leb128.specs.Format.{answered, filled};
-ghost use Rattle.sheet.specs.Grammar.{sheet};
 ghost use Rattle.sheet.specs.Reading.{«read-sheet», «write-sheet»};
 ghost use Rattle.checker.specs.Verdict.{«check-answer»};
 ghost use Rattle.strip.specs.Words.{«outcome-word», «judgement-word», DrawsWord};

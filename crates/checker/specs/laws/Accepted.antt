@@ -8,12 +8,11 @@ use lib.IntN.{ℤ}
 use lib.ListN.{length, take}
 use Rattle.leb128.specs.Refusals.{slice-short}
 use Rattle.leb128.specs.Source.{refusal}
-use Rattle.leb128.specs.Format.{Result, reading}
+use Rattle.leb128.specs.Format.{Result}
 use Rattle.leb128.specs.Format.Result.{elements}
 use Rattle.leb128.specs.Reply.{Reply}
 use Rattle.leb128.specs.laws.ReplyCases.{value-not, value-behind}
 use Rattle.leb128.specs.declared.Refusal.{Refusal}
-use Rattle.sheet.specs.Grammar.{sheet}
 use Rattle.sheet.specs.Reading.{read-sheet}
 use Rattle.drawing.specs.Sheet.{sheet-of}
 use Rattle.drawing.specs.Drawing.{LeastDrawing}

@@ -2,21 +2,13 @@
 -- with something to spare never rises; so no count of searches enters.
 use Rattle.network.specs.Net.{Net, arcs, tail, head}
 use Rattle.network.specs.WellFormed.{WellFormed}
-use Rattle.circulation.specs.inside.Search.{Crosses, step, Near, lifted, Link}
+use Rattle.circulation.specs.inside.Search.{Crosses, step, Near, Link}
 use mathlib.Core.Path.{_≡_, ap}
 use mathlib.Core.Logic.{⊎-elim}
 use Prim.Native.Nat.{ℕ, _+_, _*_, _≤_, _<_}
 use native.Mathlib.Omega.{arith}
-use Rattle.circulation.proofs.laws.Moves.{lift-in}
 use Rattle.network.specs.Packed.{high-none, kink-zero}
 use Rattle.network.specs.Limits.{most-nodes}
-
--- the reached nodes rise together, and stay near
-pub near-lifted : {n s : ℕ} {order p : ℕ → ℕ} (d : ℕ) → 0 < order s → Near n s order p → Near n s order (lifted order p d)
-near-lifted {n} {s} {order} {p} d root m = record {
-  above = λ v l r. omega (arith, lift-in (order v) (p v) d r, lift-in (order s) (p s) d root, m .above v l r);
-  below = λ v l r. omega (arith, lift-in (order v) (p v) d r, lift-in (order s) (p s) d root, m .below v l r);
-}
 
 -- a node that hangs on a near node by a tight arc is near, with a greater rank
 pub near-link : {N : Net} {n s : ℕ} {order p x room : ℕ → ℕ} (v i : ℕ) → WellFormed N n → Link N p x order room v i

@@ -1,7 +1,7 @@
 -- A flow that is counted at the two ends of its arc: one need gets more, the other less.
 use Rattle.network.specs.laws.SumsTo.{at-set}
 use Rattle.network.specs.Net.{at}
-use Rattle.circulation.specs.inside.Slackness.{pick, flow}
+use Rattle.circulation.specs.inside.Slackness.{pick}
 use Rattle.circulation.specs.Nodes.{needs, node-stride}
 use Rattle.circulation.specs.inside.Stores.{Stored, Apart}
 use mathlib.Core.Path.{_≡_, sym, ap, _∙_}

@@ -6,7 +6,7 @@ use mathlib.Core.List.{List, [], _∷_}
 use lib.Dec.{T, eqb, eqb→eq}
 use lib.IntN.{ℤ}
 use lib.ListN.{length}
-use Rattle.leb128.specs.Format.{Result, reading}
+use Rattle.leb128.specs.Format.{Result}
 use Rattle.leb128.specs.Format.Result.{elements, refused}
 use Rattle.sheet.specs.Reading.{read-sheet}
 use Rattle.network.specs.Sums.{all}

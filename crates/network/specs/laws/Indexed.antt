@@ -11,7 +11,7 @@ use lib.Dec.{T}
 use lib.IntN.{ℤ, pos}
 use lib.ListN.{length, getD, drop, length-append, List·getD-eq-default}
 use lib.Seq.{getD-drop}
-use Rattle.network.specs.Sums.{sum, all, upto}
+use Rattle.network.specs.Sums.{all, upto}
 use Rattle.network.specs.Network.{Arc}
 use Rattle.network.specs.Flows.{Flow, flows}
 use Rattle.network.specs.laws.Tests.{and-left, and-right, and-both, all-append}

@@ -5,7 +5,6 @@ use mathlib.Core.Bool.{Bool, true, false}
 use mathlib.Core.List.{List}
 use native.Mathlib.Omega.{arith}
 use lib.IntN.{ℤ}
-use Rattle.sheet.specs.Grammar.{sheet}
 use Rattle.leb128.specs.Reply.{Reply}
 use Rattle.sheet.specs.Reading.{read-sheet}
 use Rattle.checker.specs.Verdict.{check-answer}

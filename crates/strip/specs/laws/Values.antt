@@ -10,12 +10,11 @@ use lib.IntN.{ℤ}
 use borrow.Author.Tests.{lt-ltb, le-ltb}
 use lib.ListN.{length}
 use Rattle.leb128.specs.declared.Refusal.{Refusal}
-use Rattle.leb128.specs.Format.{Result, Outcome, answered, reading, writing}
+use Rattle.leb128.specs.Format.{Result, Outcome, answered}
 use Rattle.leb128.specs.Format.Result.{elements}
 use Rattle.leb128.specs.laws.Cases.{lt-or-le}
 use Rattle.leb128.specs.Reply.{Reply}
 use Rattle.sheet.specs.Limits.{max-bytes}
-use Rattle.sheet.specs.Grammar.{sheet}
 use Rattle.sheet.specs.Reading.{read-sheet, write-sheet}
 use Rattle.sheet.specs.laws.Sheets.{read-accepted, most-numbers, most-bytes, read-written, writer-refusals, writer-given, reader-refusals, reader-offsets, writer-offsets}
 use Rattle.sheet.specs.Refusals.{FormatRefusal}
@@ -25,10 +24,10 @@ use Rattle.checker.specs.laws.Refusals.{check-refusals}
 use Rattle.engine.specs.Draws.{Drawn, Refuses, DrawsSheet, Draws}
 use Rattle.engine.specs.Draws.Refuses.{few-places, few-numbers, none, passes}
 use Rattle.strip.specs.Words.{unit}
-use Rattle.strip.specs.HeldWords.{Held, HeldOutcome, HeldDrawn, HeldJudgement}
+use Rattle.strip.specs.HeldWords.{HeldRefusal, HeldOutcome, HeldDrawn, HeldJudgement}
 
 -- a refusal of a format
-given-held : (r : Refusal) → FormatRefusal (r .number) → r .offset ≤ max-bytes → Held r
+given-held : (r : Refusal) → FormatRefusal (r .number) → r .offset ≤ max-bytes → HeldRefusal r
 given-held r n o = record { numbered = n .0; offset-in = omega arith }
 
 -- elements are counted, or have no room
@@ -46,7 +45,7 @@ unfolding answered
 refused-answer room r = refl
 
 -- and held as it is
-refused-held : (room : ℕ) (r : Refusal) → Held r → HeldOutcome (answered room (Result.refused r))
+refused-held : (room : ℕ) (r : Refusal) → HeldRefusal r → HeldOutcome (answered room (Result.refused r))
 unfolding answered
 refused-held room r h = h
 
