@@ -7,4 +7,5 @@ pub mod Walk
 pub mod Format
 pub mod Place
 pub mod Reply
+pub mod inside
 pub mod laws

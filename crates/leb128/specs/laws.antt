@@ -12,3 +12,4 @@ pub mod Offsets
 pub mod FirstBytes
 pub mod RefusalsGiven
 pub mod ReplyCases
+pub mod Storing

@@ -5,16 +5,16 @@ use mathlib.Core.Logic.{⊎-elim}
 use mathlib.Core.List.{List}
 use native.Mathlib.Omega.{arith}
 use native.Mathlib.Nat.{pow-suc, div-lt-iff-lt-mul}
-use native.Mathlib.Numerals.{add-one}
-use lib.ListN.{length, set, length-set}
-use lib.Seq.{sets}
+use lib.ListN.{length, set}
 use lib.Dec.{lit<}
 use borrow.Author.Tests.{lt-ltb, le-ltb}
 use Rattle.leb128.specs.Limits.{number-bytes, number-limit}
 use Rattle.leb128.specs.Number.{encode}
 use Rattle.leb128.specs.Place.{Placing, placing, placed, written}
+use Rattle.leb128.specs.inside.Storing.{Room, Puts}
 use Rattle.leb128.specs.laws.Cases.{lt-or-le}
 use Rattle.leb128.specs.laws.DecodeEncode.{encode-last, encode-more}
+use Rattle.leb128.specs.laws.Storing.{Left, left-begin, left-one, left-end}
 use Rattle.leb128.specs.declared.Placed.{Placed}
 use Rattle.leb128.specs.declared.Placed.the-variants.{Next, NoForm, NoRoom}
 
@@ -68,56 +68,38 @@ module _ {n rest size : ℕ} (state : Sizing n rest size) where
         same = omega (arith, f, ap length (encode-more (suc (number-bytes - (size + 1))) rest k));
       }
 
--- some bytes are stored, and the rest of the number, in left bytes at most, is to be stored at next
-pub record Storing (old : List ℕ) (at n : ℕ) (new : List ℕ) (rest next : ℕ) : Type 0 where
-  pub left : ℕ
-  pub below : rest < 128 ^ suc left
-  pub size : at + length (encode number-bytes n) ≡ next + length (encode (suc left) rest)
-  pub same : sets old at (encode number-bytes n) ≡ sets new next (encode (suc left) rest)
-  pub same-length : length new ≡ length old
+-- some bytes are stored, and the rest of the number, in one byte and more others at most, is left to store at next
+pub record BytesLeft (old : List ℕ) (at n : ℕ) (new : List ℕ) (rest next : ℕ) : Type 0 where
+  pub more : ℕ
+  pub below : rest < 128 ^ suc more
+  pub left : Left old at (encode number-bytes n) new next (encode (suc more) rest)
 
--- nothing is stored at the start
-pub storing-begin : (old : List ℕ) (at n : ℕ) → n < number-limit → Storing old at n old n at
-storing-begin old at n h = record { left = number-bytes - 1; below = h; size = refl; same = refl; same-length = refl }
+-- all are left at the start
+pub bytes-begin : (old : List ℕ) (at n : ℕ) → n < number-limit → BytesLeft old at n old n at
+bytes-begin old at n h = record { more = number-bytes - 1; below = h; left = left-begin old at (encode number-bytes n) }
 
-module _ {old : List ℕ} {at n : ℕ} {new : List ℕ} {rest next : ℕ} (state : Storing old at n new rest next) where
-  module _ (short : rest < 128) where
-    -- the last byte ends the number
-    pub stored-size : next + 1 ≡ at + length (encode number-bytes n)
-    stored-size = omega (arith, state .size, ap length (encode-last (state .left) rest short))
+module _ {old : List ℕ} {at n : ℕ} {new : List ℕ} {rest next : ℕ} (state : BytesLeft old at n new rest next) where
+  -- the next one has room
+  pub bytes-room : Room old at (encode number-bytes n) → next < length new
+  bytes-room room = omega (arith, room .fits, state .left .ends, state .left .size, some (state .more) rest)
 
-    -- the last byte is stored
-    pub stored : set new next rest ≡ sets old at (encode number-bytes n)
-    stored = sym (state .same ∙ rw (encode-last (state .left) rest short))
+  -- the last one is stored
+  pub bytes-end : rest < 128 → Puts old at (encode number-bytes n) (set new next rest) (next + 1)
+  bytes-end h = left-end (left-one (rw (encode-last (state .more) rest h) at (state .left)))
 
-  module _ (long : 128 ≤ rest) where
-    -- a group that goes on is not the last byte
-    pub storing-room : next + 1 < at + length (encode number-bytes n)
-    storing-room = go (state .left) (state .below) (state .size)
-      where
-        go : (left : ℕ) → rest < 128 ^ suc left
-            → at + length (encode number-bytes n) ≡ next + length (encode (suc left) rest)
-            → next + 1 < at + length (encode number-bytes n)
-        go zero b e = omega arith
-        go (suc left) b e = omega (arith, e, ap length (encode-more (suc left) rest long), some left (rest / 128))
-
-    -- a group that goes on is stored
-    pub storing-next : Storing old at n (set new next (rest % 128 + 128)) (rest / 128) (next + 1)
-    storing-next = go (state .left) (state .below) (state .size) (state .same)
-      where
-        go : (left : ℕ) → rest < 128 ^ suc left
-            → at + length (encode number-bytes n) ≡ next + length (encode (suc left) rest)
-            → sets old at (encode number-bytes n) ≡ sets new next (encode (suc left) rest)
-            → Storing old at n (set new next (rest % 128 + 128)) (rest / 128) (next + 1)
-        go zero b e s = absurd (omega arith)
-        go (suc left) b e s =
-            record {
-              left = left;
-              below = div-lt-iff-lt-mul (lit< tt) .1 (rw pow-suc at b);
-              size = omega (arith, e, ap length (encode-more (suc left) rest long));
-              same = rw add-one (s ∙ rw (encode-more (suc left) rest long));
-              same-length = length-set new next (rest % 128 + 128) ∙ state .same-length;
-            }
+  -- one that goes on is stored
+  pub bytes-next : 128 ≤ rest → BytesLeft old at n (set new next (rest % 128 + 128)) (rest / 128) (next + 1)
+  bytes-next h = go (state .more) (state .below) (state .left)
+    where
+      go : (more : ℕ) → rest < 128 ^ suc more → Left old at (encode number-bytes n) new next (encode (suc more) rest)
+          → BytesLeft old at n (set new next (rest % 128 + 128)) (rest / 128) (next + 1)
+      go zero b left = absurd (omega arith)
+      go (suc more) b left =
+          record {
+            more = more;
+            below = div-lt-iff-lt-mul (lit< tt) .1 (rw pow-suc at b);
+            left = left-one (rw (encode-more (suc more) rest h) at left);
+          }
 
 -- the answer and the slice of the contract
 abbrev pub WrittenAs : List ℕ → ℕ → ℕ → Placed → List ℕ → Type 0
@@ -137,9 +119,8 @@ module _ (old : List ℕ) (at n : ℕ) where
 
     -- the number is written
     pub next-place : (after : ℕ) (new : List ℕ) → at + length (encode number-bytes n) ≤ length old
-        → (after ≡ at + length (encode number-bytes n)) × (new ≡ sets old at (encode number-bytes n))
-        → WrittenAs old at n (Next after) new
+        → Puts old at (encode number-bytes n) new after → WrittenAs old at n (Next after) new
     unfolding placing placed written
-    next-place after new h e =
+    next-place after new h p =
         rw (lt-ltb n number-limit form, le-ltb (length old) (at + length (encode number-bytes n)) h)
-        (ap Placing.next (e .0), e .1)
+        (ap Placing.next (p .behind), p .stored)

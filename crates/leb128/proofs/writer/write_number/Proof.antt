@@ -35,7 +35,7 @@ store-requires : tie.Need-store-requires
 store-requires c κs =
     let start = c .before .before .before .before .before .before in
     let number-size = c .before .before .before .number-size in
-    (omega arith, omega (arith, number-size .ensures ∙ number-size-is (start .args .n)))
+    (omega arith, record { fits = omega (arith, number-size .ensures ∙ number-size-is (start .args .n)) })
 
 same-length : tie.Need-same-length
 same-length c = search needs
