@@ -1,4 +1,3 @@
-pub mod Putting
 pub mod Fields
 pub mod Nodes
 pub mod Delivering

@@ -6,10 +6,10 @@ use sheet::Location;
 use sheet::locate;
 ghost use Prim.Native.Nat.{_≤_};
 ghost use lib.ListN.{length};
+ghost use Rattle.leb128.specs.inside.Storing.{Room, Puts};
 ghost use Rattle.sheet.specs.Layout.{«node-count», LaidOut};
 ghost use Rattle.drawing.specs.Sheet.{«sheet-of»};
 ghost use Rattle.report.specs.Text.{«total-line», «node-line», «layers-lines», «drawing-lines», «refusal-line»};
-ghost use Rattle.report.specs.inside.Puts.{Room, Puts};
 
 // What stands between two numbers.
 const SPACE: u8 = b' ';
@@ -39,7 +39,8 @@ fn put_nodes(numbers: &[u16], places: &[u16], text: &mut [u8], start: usize) -> 
     requires { ⌜ LaidOut (now numbers) ⌝ }
     requires { ⌜ node-count (now numbers) ≤ length (now places) ⌝ }
     requires { ⌜ Room (now text) start (layers-lines (now places) 1 (sheet-of (now numbers) .layers)) ⌝ }
-    ensures { λ r. ⌜ Puts (now (text .entry)) start (layers-lines (now (places .entry)) 1 (sheet-of (now (numbers .entry)) .layers)) (now (text .exit)) r ⌝ }
+    ensures { λ r. ⌜ Puts (now (text .entry)) start (layers-lines (now (places .entry)) 1 (sheet-of (now (numbers .entry)) .layers))
+        (now (text .exit)) r ⌝ }
 {
     let mut at = start;
     let mut v: usize = 0;
@@ -68,7 +69,8 @@ pub fn put_drawing(numbers: &[u16], places: &[u16], total: u32, text: &mut [u8])
     requires { ⌜ LaidOut (now numbers) ⌝ }
     requires { ⌜ node-count (now numbers) ≤ length (now places) ⌝ }
     requires { ⌜ Room (now text) 0 (drawing-lines (sheet-of (now numbers)) (now places) total) ⌝ }
-    ensures { λ r. ⌜ Puts (now (text .entry)) 0 (drawing-lines (sheet-of (now (numbers .entry))) (now (places .entry)) total) (now (text .exit)) r ⌝ }
+    ensures { λ r. ⌜ Puts (now (text .entry)) 0 (drawing-lines (sheet-of (now (numbers .entry))) (now (places .entry)) total)
+        (now (text .exit)) r ⌝ }
 {
     let at = put_total(text, total);
     put_nodes(numbers, places, text, at)

@@ -1,7 +1,7 @@
 // Texts stored one behind the other.
 use crate::limits::MAX_DIGITS;
+ghost use Rattle.leb128.specs.inside.Storing.{Room, Puts};
 ghost use Rattle.report.specs.Text.{field};
-ghost use Rattle.report.specs.inside.Puts.{Room, Puts};
 
 // Stores a text at a position, and gives the position behind it.
 pub fn put(text: &mut [u8], at: usize, part: &[u8]) -> usize

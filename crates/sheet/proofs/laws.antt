@@ -6,7 +6,6 @@ pub mod Sheet
 pub mod Openings
 pub mod Settling
 pub mod SecondPass
-pub mod Written
 pub mod FillingNumbers
 pub mod Putting
 pub mod Examples

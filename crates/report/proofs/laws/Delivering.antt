@@ -11,8 +11,8 @@ use Rattle.leb128.specs.Format.{Outcome, outcome, answered, filled}
 use Rattle.leb128.specs.Format.Result.{elements}
 use Rattle.leb128.specs.declared.Answer.{Answer}
 use Rattle.leb128.specs.declared.Answer.the-variants.{Done, Refused}
-use Rattle.report.specs.inside.Puts.{Puts}
-use Rattle.report.proofs.laws.Putting.{puts-front}
+use Rattle.leb128.specs.inside.Storing.{Puts}
+use Rattle.leb128.specs.laws.Storing.{sets-front}
 
 module _ (whole old : List ℕ) where
   module _ (h : length old < length whole) where
@@ -37,4 +37,4 @@ module _ (whole old : List ℕ) where
     -- long enough: the slice
     pub whole-slice : new ≡ filled (elements whole) old
     unfolding filled
-    whole-slice = puts-front p h ∙ rw (le-ltb (length old) (length whole) h)
+    whole-slice = p .stored ∙ sets-front whole old h ∙ rw (le-ltb (length old) (length whole) h)

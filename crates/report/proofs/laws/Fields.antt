@@ -4,12 +4,12 @@ use mathlib.Core.Path.{_≡_, refl, _∙_, ap}
 use mathlib.Core.List.{List, [], _∷_}
 use native.Mathlib.Omega.{arith}
 use lib.ListN.{length, set, take}
+use Rattle.leb128.specs.inside.Storing.{Room, Puts}
+use Rattle.leb128.specs.laws.Storing.{puts-then, room-first, room-next}
 use Rattle.io.specs.Digits.{digits, Fewest}
 use Rattle.report.specs.Decimal.{decimal}
 use Rattle.report.specs.Text.{field}
-use Rattle.report.specs.inside.Puts.{Room, Puts}
 use Rattle.report.specs.laws.Fewest.{digits-decimal}
-use Rattle.report.proofs.laws.Putting.{puts-then, room-first, room-next}
 
 -- the first k elements of a list are the fewest digits of n
 module _ (n k : ℕ) (made : List ℕ) (fewest : Fewest 10 1 n k) (e : take k made ≡ digits 10 k n) where

@@ -7,6 +7,8 @@ use native.Mathlib.Nat.{zero-add}
 use native.Mathlib.Omega.{arith}
 use lib.ListN.{length, length-append}
 use Rattle.leb128.specs.laws.Cases.{lt-or-le}
+use Rattle.leb128.specs.inside.Storing.{Room, Puts}
+use Rattle.leb128.specs.laws.Storing.{Left, left-begin, left-room, left-part, left-end}
 use Rattle.sheet.specs.Layout.{node-count, LaidOut}
 use Rattle.sheet.specs.Nodes.{standing, node-of}
 use Rattle.sheet.specs.Nodes.Located.{found, missing}
@@ -16,9 +18,7 @@ use Rattle.drawing.specs.Sheet.{sheet-of}
 use Rattle.drawing.specs.Drawing.{coordinate}
 use Rattle.drawing.specs.laws.Located.{stands, found-node}
 use Rattle.report.specs.Text.{node-line, layers-lines}
-use Rattle.report.specs.inside.Puts.{Room, Puts}
 use Rattle.report.specs.laws.ByNode.{line-of, lines-from, by-node}
-use Rattle.report.proofs.laws.Putting.{Left, left-begin, left-part, left-end}
 
 -- where the locator finds a node
 pub at-node : (numbers : List ℕ) (v : ℕ) {r : Location} {layer position : ℕ} → standing r ≡ node-of numbers v
@@ -41,7 +41,8 @@ all-before numbers v e is =
 -- the lines of the nodes from v on are left to store
 pub record NodesLeft (numbers p old : List ℕ) (start : ℕ) (new : List ℕ) (at v : ℕ) : Type 0 where
   pub turns : v ≤ node-count numbers
-  pub left : Left old start (layers-lines p 1 (sheet-of numbers .layers)) new at (lines-from (node-of numbers) p 0 (node-count numbers - v) v)
+  pub left : Left old start (layers-lines p 1 (sheet-of numbers .layers)) new at
+      (lines-from (node-of numbers) p 0 (node-count numbers - v) v)
 
 -- all of them at the start
 pub nodes-begin : (numbers p old : List ℕ) (start : ℕ) → LaidOut numbers → NodesLeft numbers p old start old start 0
@@ -76,17 +77,7 @@ module _ {numbers p old new : List ℕ} {start at v : ℕ} (left : NodesLeft num
 
     -- its line has room
     pub node-room : Room old start (layers-lines p 1 (sheet-of numbers .layers)) → Room new at (node-line layer position (coordinate p v))
-    node-room room =
-        record {
-          fits =
-              omega (
-                arith,
-                room .fits,
-                left .left .ends,
-                left .left .size,
-                ap length first-line ∙ length-append (node-line layer position (coordinate p v)) _,
-              );
-        }
+    node-room room = left-room (node-line layer position (coordinate p v)) _ (rw first-line at (left .left)) room
 
     -- its line is stored
     pub nodes-next : {new′ : List ℕ} {next : ℕ} → Puts new at (node-line layer position (coordinate p v)) new′ next

@@ -14,15 +14,15 @@ use Rattle.leb128.specs.Format.Result.{elements}
 use Rattle.leb128.specs.declared.Refusal.{Refusal}
 use Rattle.leb128.specs.declared.Answer.{Answer}
 use Rattle.leb128.specs.declared.Answer.the-variants.{Refused}
+use Rattle.leb128.specs.inside.Storing.{Room, Puts}
+use Rattle.leb128.specs.laws.Storing.{sets-front, puts-length}
 use Rattle.sheet.specs.Layout.{node-count, LaidOut}
 use Rattle.drawing.specs.Sheet.{sheet-of}
 use Rattle.drawing.specs.Drawing.{coordinate}
 use Rattle.drawing.specs.laws.Proper.{nodes-are}
 use Rattle.report.specs.Limits.{max-text}
 use Rattle.report.specs.Text.{drawing-lines, refusal-line, drawing-text}
-use Rattle.report.specs.inside.Puts.{Room, Puts}
 use Rattle.report.specs.laws.Lengths.{drawing-lines-le, any-text-limit, refusal-line-le, refusal-limit}
-use Rattle.report.proofs.laws.Putting.{puts-length, puts-front}
 
 -- a refusal's text fits
 pub refusal-room : (room : List ℕ) (r : Refusal) → max-text ≤ length room → r .number < 2 ^ 8 → r .offset < 2 ^ 64
@@ -55,7 +55,7 @@ module _ {old text new : List ℕ} {count : ℕ} (room : Room old 0 text) (p : P
       let none : count - 0 ≡ count = omega arith in
       let size : length text ≡ count = omega (arith, p .behind) in
       ap (λ (n : ℕ). take n new) none
-      ∙ ap (take count) (puts-front p (omega (arith, room .fits)))
+      ∙ ap (take count) (p .stored ∙ sets-front text old (omega (arith, room .fits)))
       ∙ take-at text (drop (length text) old) count size
 
   -- the answer to a delivery of what stands there
@@ -63,12 +63,14 @@ module _ {old text new : List ℕ} {count : ℕ} (room : Room old 0 text) (p : P
   made-answer space e = e ∙ ap (λ (t : List ℕ). answered space (elements t)) made-is
 
   -- the slice after it
-  pub made-slice : {after : List ℕ} (before : List ℕ) → after ≡ filled (elements (take (count - 0) new)) before → after ≡ filled (elements text) before
+  pub made-slice : {after : List ℕ} (before : List ℕ)
+      → after ≡ filled (elements (take (count - 0) new)) before → after ≡ filled (elements text) before
   made-slice before e = e ∙ ap (λ (t : List ℕ). filled (elements t) before) made-is
 
 module _ (numbers p : List ℕ) (total : ℕ) where
   -- each node has a place: the drawing's text
-  pub text-is : node-count numbers ≤ length p → drawing-text (elements numbers) p total ≡ elements (drawing-lines (sheet-of numbers) p total)
+  pub text-is : node-count numbers ≤ length p
+      → drawing-text (elements numbers) p total ≡ elements (drawing-lines (sheet-of numbers) p total)
   unfolding drawing-text
   text-is h = rw (le-ltb (length p) (sheet-of numbers .nodes) (omega (arith, nodes-are numbers)))
 

@@ -15,6 +15,7 @@ use Rattle.leb128.specs.laws.EachNumber.Each.{end, each}
 use Rattle.leb128.specs.laws.AcceptedNumbers.{Chain}
 use Rattle.leb128.specs.laws.AcceptedNumbers.Chain.{none, more}
 use Rattle.leb128.specs.laws.GoodFormat.{good-reading, filled-elements}
+use Rattle.leb128.specs.laws.Storing.{sets-front, Left, left-begin, left-one, left-end}
 use Rattle.leb128.specs.declared.Refusal.{Refusal}
 use Rattle.leb128.specs.declared.Found.{Found}
 use Rattle.leb128.specs.declared.Found.the-variants.{Value, Refused}
@@ -24,7 +25,6 @@ use Rattle.sheet.specs.Reading.{read-sheet}
 use Rattle.sheet.specs.inside.Passes.{SheetBytes}
 use Rattle.sheet.specs.laws.SheetNumbers.{SheetNumber, each-sheet}
 use Rattle.sheet.proofs.laws.WalkSteps.{plain-raised}
-use Rattle.sheet.proofs.laws.Written.{Written, written-begin, written-length, written-one, written-end}
 
 -- these numbers stand in the bytes, one behind the other
 pub data Row (bytes : List ℕ) : ℕ → List ℕ → Type 0 where
@@ -44,27 +44,26 @@ chain-row bytes end none = stop
 chain-row bytes (each {form = form} p s) (more {at = at} {n = n} ok i chain) =
     next (sym (plain-item bytes form at (p .is-plain)) ∙ i) (p .small n ok .1) (chain-row bytes (s n ok) chain)
 
--- i of count numbers are written, and the rest stands in the bytes from a position on
+-- i of count numbers are stored, and those that are left stand in the bytes from a position on
 pub record FillLeft (bytes : List ℕ) (count : ℕ) (old new : List ℕ) (at i : ℕ) : Type 0 where
   pub wanted : List ℕ
   pub reads : read-sheet bytes ≡ elements wanted
   pub counted : count ≡ length wanted
   pub rest : List ℕ
   pub row : Row bytes at rest
-  pub written : Written wanted old new rest i
+  pub left : Left old 0 wanted new i rest
 
--- nothing is written at the start
-pub fill-begin : {bytes : List ℕ} {count : ℕ} (old : List ℕ) → SheetBytes bytes count → count ≤ length old
-    → FillLeft bytes count old old (length magic) 0
+-- all are left at the start
+pub fill-begin : {bytes : List ℕ} {count : ℕ} (old : List ℕ) → SheetBytes bytes count → FillLeft bytes count old old (length magic) 0
 unfolding read-sheet
-fill-begin {bytes} {count} old h room =
+fill-begin {bytes} old h =
     record {
       wanted = h .numbers;
       reads = h .reads;
       counted = h .counted;
       rest = h .numbers;
       row = chain-row bytes each-sheet (good-reading magic sheet bytes (h .numbers) (h .reads) .good .chain);
-      written = written-begin (h .numbers) old (omega (arith, h .counted));
+      left = left-begin old 0 (h .numbers);
     }
 
 -- the number that is found is the next one
@@ -72,42 +71,42 @@ pub record FillNext (bytes : List ℕ) (count : ℕ) (old new : List ℕ) (i n a
   pub small : n < list-limit
   pub again : FillLeft bytes count old (set new i n) after (i + 1)
 
-module _ {bytes : List ℕ} {count : ℕ} {old new : List ℕ} {at i : ℕ} (left : FillLeft bytes count old new at i) where
-  -- all numbers are written
-  pub fill-end : count ≤ i → new ≡ filled (read-sheet bytes) old
-  fill-end h = go (left .rest) (left .written)
+module _ {bytes : List ℕ} {count : ℕ} {old new : List ℕ} {at i : ℕ} (p : FillLeft bytes count old new at i) where
+  -- none is left
+  pub fill-end : count ≤ i → count ≤ length old → new ≡ filled (read-sheet bytes) old
+  fill-end h room = go (p .rest) (p .left)
     where
-      go : (rest : List ℕ) → Written (left .wanted) old new rest i → new ≡ filled (read-sheet bytes) old
-      go [] w =
-          let e = written-end w in
-          (rw (e .1) at (e .0)) ∙ sym (filled-elements old (left .reads) (w .fits))
-      go (x ∷ rest) w = absurd (omega (arith, written-length w, left .counted))
+      go : (rest : List ℕ) → Left old 0 (p .wanted) new i rest → new ≡ filled (read-sheet bytes) old
+      go [] left =
+          let fits : length (p .wanted) ≤ length old = omega (arith, p .counted) in
+          left-end left .stored ∙ sets-front (p .wanted) old fits ∙ sym (filled-elements old (p .reads) fits)
+      go (x ∷ rest) left = absurd (omega (arith, left .ends, p .counted))
 
   module _ (found : Found) (more : i < count) (is-found : item found ≡ byte-item bytes at) where
     -- the next number of the row
-    fill-row : (rest : List ℕ) → Row bytes at rest → Written (left .wanted) old new rest i → (n after : ℕ)
+    fill-row : (rest : List ℕ) → Row bytes at rest → Left old 0 (p .wanted) new i rest → (n after : ℕ)
         → byte-item bytes at ≡ value n after → FillNext bytes count old new i n after
-    fill-row [] stop w n after e = absurd (omega (arith, written-length w, left .counted))
-    fill-row (m ∷ ms) (next {after = q} there small row) w n after e =
+    fill-row [] stop left n after e = absurd (omega (arith, left .ends, p .counted))
+    fill-row (m ∷ ms) (next {after = q} there small row) left n after e =
         let f : value m q ≡ value n after = sym there ∙ e in
         let is-n : m ≡ n = cc in
         let is-after : q ≡ after = cc in
         rw (← is-n, ← is-after)
         (record {
           small = small;
-          again = record { wanted = left .wanted; reads = left .reads; counted = left .counted; rest = ms; row = row; written = written-one w };
+          again = record { wanted = p .wanted; reads = p .reads; counted = p .counted; rest = ms; row = row; left = left-one left };
         })
 
-    -- the number that is found is written
+    -- the number that is found is stored
     pub fill-next : {n after : ℕ} → found ≡ Value n after → FillNext bytes count old new i n after
-    fill-next {n} {after} e = fill-row (left .rest) (left .row) (left .written) n after (sym is-found ∙ ap item e)
+    fill-next {n} {after} e = fill-row (p .rest) (p .row) (p .left) n after (sym is-found ∙ ap item e)
 
     -- no number of a good sheet is refused
     pub fill-never : {r : Refusal} → found ≡ Refused r → ⊥
-    fill-never {r} e = go (left .rest) (left .row) (left .written)
+    fill-never {r} e = go (p .rest) (p .row) (p .left)
       where
-        go : (rest : List ℕ) → Row bytes at rest → Written (left .wanted) old new rest i → ⊥
-        go [] stop w = omega (arith, written-length w, left .counted)
-        go (m ∷ ms) (next {after = q} there small row) w =
+        go : (rest : List ℕ) → Row bytes at rest → Left old 0 (p .wanted) new i rest → ⊥
+        go [] stop left = omega (arith, left .ends, p .counted)
+        go (m ∷ ms) (next {after = q} there small row) left =
             let f : Item.refused r ≡ value m q = sym (ap item e) ∙ (is-found ∙ there) in
             let z : _≡_ {A = ℕ} 0 1 = cc in omega arith

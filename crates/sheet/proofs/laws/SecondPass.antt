@@ -3,11 +3,14 @@ use Prim.Native.Nat.{ℕ, zero, suc, _+_, _≤_, _<_}
 use mathlib.Core.Path.{_≡_, sym, _∙_, ap}
 use mathlib.Core.List.{List, _++_}
 use native.Mathlib.Omega.{arith}
-use lib.ListN.{length, getD, drop, length-append}
+use lib.ListN.{length, getD}
+use lib.Seq.{sets}
 use Rattle.leb128.specs.Limits.{number-limit}
 use Rattle.leb128.specs.Grammar.{Grammar, Accepts}
 use Rattle.leb128.specs.Format.{Result, answered, filled, outcome}
 use Rattle.leb128.specs.Format.Result.{elements}
+use Rattle.leb128.specs.inside.Storing.{Room}
+use Rattle.leb128.specs.laws.Storing.{sets-front}
 use Rattle.leb128.specs.laws.EachNumber.{Each}
 use Rattle.leb128.specs.laws.EachNumber.Each.{end, each}
 use Rattle.leb128.specs.Grammar.Accepts.{nil, one}
@@ -46,19 +49,17 @@ module _ {answer : Answer} {count : ℕ} (old : List ℕ) (is-done : answer ≡ 
 
   module _ (numbers : List ℕ) (e : outcome answer ≡ answered (length old) (write-sheet numbers)) where
     -- the list is good, and its sheet has room
-    pub write-done : (write-sheet numbers ≡ elements (magic ++ encode-all numbers)) × ((i : ℕ) → getD numbers i 0 < number-limit) × (length magic + length (encode-all numbers) ≤ length old)
+    pub write-done : (write-sheet numbers ≡ elements (magic ++ encode-all numbers)) × ((i : ℕ) → getD numbers i 0 < number-limit)
+        × Room old 0 (magic ++ encode-all numbers)
     unfolding outcome write-sheet
     write-done =
         let w = answered-wrote (length old) (write-sheet numbers) count (sym e ∙ ap outcome is-done) in
         let g = good-writing magic sheet numbers (w .0) (w .1) in
         let are : w .0 ≡ magic ++ encode-all numbers = g .1 ∙ ap (λ (l : List ℕ). magic ++ l) (flat each-sheet (g .0)) in
-        (w .1 ∙ ap elements are, below-limit each-sheet (g .0), omega (arith, w .3, ap length are, length-append magic (encode-all numbers)))
+        (w .1 ∙ ap elements are, below-limit each-sheet (g .0), record { fits = omega (arith, w .3, ap length are) })
 
     -- the sheet is written in front of the old bytes
-    pub write-filled : {new : List ℕ}
-        → new ≡ (magic ++ encode-all numbers) ++ drop (length (magic ++ encode-all numbers)) old
-        → new ≡ filled (write-sheet numbers) old
-    write-filled n =
-        n
-        ∙ sym
-        (filled-elements old (write-done .0) (omega (arith, write-done .2, length-append magic (encode-all numbers))))
+    pub write-filled : {new : List ℕ} → new ≡ sets old 0 (magic ++ encode-all numbers) → new ≡ filled (write-sheet numbers) old
+    write-filled e =
+        let fits : length (magic ++ encode-all numbers) ≤ length old = omega (arith, write-done .2 .fits) in
+        e ∙ sets-front (magic ++ encode-all numbers) old fits ∙ sym (filled-elements old (write-done .0) fits)

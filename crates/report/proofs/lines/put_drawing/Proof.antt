@@ -1,7 +1,7 @@
 -- `report::lines::put_drawing` meets its contract: the total, and the nodes behind it.
+use Rattle.leb128.specs.laws.Storing.{puts-then, room-first, room-next}
 use Rattle.drawing.specs.Sheet.{sheet-of}
 use Rattle.report.specs.Text.{total-line, layers-lines, drawing-lines}
-use Rattle.report.proofs.laws.Putting.{puts-then, room-first, room-next}
 use borrow.Author.Needs.{needs}
 use Rattle.report.proofs.lines.put_drawing.Statement.{statement}
 use Rattle.report.proofs.lines.put_drawing.Tie as tie

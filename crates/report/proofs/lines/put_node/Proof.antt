@@ -1,7 +1,7 @@
 -- `report::lines::put_node` meets its contract: three numbers, one behind the other.
 use mathlib.Core.List.{_++_}
+use Rattle.leb128.specs.laws.Storing.{puts-then, room-first, room-next}
 use Rattle.report.specs.Text.{space, newline, field, node-line}
-use Rattle.report.proofs.laws.Putting.{puts-then, room-first, room-next}
 use borrow.Author.Needs.{needs}
 use Rattle.report.proofs.lines.put_node.Statement.{statement}
 use Rattle.report.proofs.lines.put_node.Tie as tie

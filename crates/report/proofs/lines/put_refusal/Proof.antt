@@ -1,7 +1,7 @@
 -- `report::lines::put_refusal` meets its contract: two words and two numbers.
 use mathlib.Core.List.{_++_}
+use Rattle.leb128.specs.laws.Storing.{puts-then, room-first, room-next}
 use Rattle.report.specs.Text.{space, newline, refused-word, at-word, field, refusal-line}
-use Rattle.report.proofs.laws.Putting.{puts-then, room-first, room-next}
 use borrow.Author.Needs.{needs}
 use Rattle.report.proofs.lines.put_refusal.Statement.{statement}
 use Rattle.report.proofs.lines.put_refusal.Tie as tie
@@ -48,10 +48,11 @@ put-requires-2 c κs =
 put-field-requires-2 : tie.Need-put-field-requires-2
 unfolding refusal-line
 put-field-requires-2 c κs =
-    let start = c .before .before .before .before .before .before .before .before .before .before .before .before .before .before .before .before .before in
+    let second = c .before .before .before .before .before .before .before .before in
+    let start = second .before .before .before .before .before .before .before .before .before in
     let offset-field = field (start .args .refusal .offset) newline in
-    let put = c .before .before .before .before .before .before .before .before .before .before .before .before .before .put in
-    let put-field = c .before .before .before .before .before .before .before .before .put-field in
+    let put = second .before .before .before .before .before .put in
+    let put-field = second .put-field in
     let put2 = c .before .before .before .put2 in
     room-next offset-field
     (puts-then (puts-then (put .ensures) (put-field .ensures)) (put2 .ensures)) (start .pre)
@@ -62,8 +63,9 @@ same-length c = search needs
 returns : tie.Need-returns
 unfolding refusal-line
 returns c =
-    let put = c .before .before .before .before .before .before .before .before .before .before .before .before .before .before .before .before .put in
-    let put-field = c .before .before .before .before .before .before .before .before .before .before .before .put-field in
+    let second = c .before .before .before .before .before .before .before .before .before .before .before in
+    let put = second .before .before .before .before .before .put in
+    let put-field = second .put-field in
     let put2 = c .before .before .before .before .before .before .put2 in
     let put-field2 = c .before .before .put-field2 in
     puts-then (puts-then (puts-then (put .ensures) (put-field .ensures)) (put2 .ensures)) (put-field2 .ensures)

@@ -1,6 +1,6 @@
 -- `report::lines::put_total` meets its contract: the word and the number.
+use Rattle.leb128.specs.laws.Storing.{puts-then, room-first, room-next}
 use Rattle.report.specs.Text.{total-word, newline, field, total-line}
-use Rattle.report.proofs.laws.Putting.{puts-then, room-first, room-next}
 use borrow.Author.Needs.{needs}
 use Rattle.report.proofs.lines.put_total.Statement.{statement}
 use Rattle.report.proofs.lines.put_total.Tie as tie

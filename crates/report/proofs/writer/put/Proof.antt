@@ -1,5 +1,6 @@
 -- `report::writer::put` meets its contract: the loop's invariant is `Left`.
-use Rattle.report.proofs.laws.Putting.{Left, left-begin, copy-room, copy-next, copy-end}
+use Rattle.leb128.specs.laws.Storing.{Left, left-begin, copy-room, copy-next, copy-end}
+use mathlib.Core.Path.{refl}
 use lib.ListN.{length, drop}
 use native.Mathlib.Omega.{arith}
 use Prim.Native.Nat.{_≤_, _-_}
@@ -23,13 +24,13 @@ slice-write-text : tie.Need-slice-write-text Inv-loop μ-loop
 slice-write-text c =
     let loop = c .before .before .loop in
     let start = c .before .before .before in
-    copy-room (loop .i) (loop .inv .1) (start .pre) (c .before .loop-test .taken)
+    copy-room (loop .i) (loop .inv .1) (c .before .loop-test .taken) (start .pre)
 
 add-next : tie.Need-add-next Inv-loop μ-loop
 add-next c =
     let loop = c .before .before .loop in
     let start = c .before .before .before in
-    let room = copy-room (loop .i) (loop .inv .1) (start .pre) (c .before .loop-test .taken) in
+    let room = copy-room (loop .i) (loop .inv .1) (c .before .loop-test .taken) (start .pre) in
     omega arith
 
 add-i : tie.Need-add-i Inv-loop μ-loop
@@ -41,7 +42,7 @@ loop-less c = search needs
 loop-again : tie.Need-loop-again Inv-loop μ-loop
 loop-again c =
     let loop = c .before .before .loop in
-    (omega arith, copy-next (loop .i) (loop .inv .1) (c .before .loop-test .taken))
+    (omega arith, copy-next (loop .i) (loop .inv .1) 0 (c .before .loop-test .taken) refl)
 
 same-length : tie.Need-same-length Inv-loop μ-loop
 same-length c = c .before .loop .inv .1 .size

@@ -13,7 +13,7 @@ abbrev μ-loop : tie.MeasureT-loop
 μ-loop bytes numbers₀ count at₀ i₀ numbers at i = count - i
 
 loop-holds : tie.Need-loop-holds Inv-loop μ-loop
-loop-holds c = fill-begin _ (c .before .before .pre .0) (c .before .before .pre .1)
+loop-holds c = fill-begin _ (c .before .before .pre .0)
 
 read-number-requires : tie.Need-read-number-requires Inv-loop μ-loop
 read-number-requires c κs = search needs
@@ -25,7 +25,7 @@ enum-told : tie.Need-enum-told Inv-loop μ-loop
 enum-told c = search needs
 
 same-length : tie.Need-same-length Inv-loop μ-loop
-same-length c = c .before .before .before .before .loop .inv .written .same-length
+same-length c = c .before .before .before .before .loop .inv .left .size
 
 returns : tie.Need-returns Inv-loop μ-loop
 returns c =
@@ -49,7 +49,7 @@ slice-write-numbers : tie.Need-slice-write-numbers Inv-loop μ-loop
 slice-write-numbers c =
     let start = c .before .before .before .before .before .before .before .before in
     let loop = c .before .before .before .before .before .loop in
-    omega (arith, loop .inv .written .same-length, start .pre .1)
+    omega (arith, loop .inv .left .size, start .pre .1)
 
 add-i : tie.Need-add-i Inv-loop μ-loop
 add-i c = omega arith
@@ -64,10 +64,10 @@ loop-again c =
     fill-next (loop .inv) (read-number .result) (omega arith) (read-number .ensures) (c .before .found .given .1) .again
 
 same-length-2 : tie.Need-same-length-2 Inv-loop μ-loop
-same-length-2 c = c .before .loop .inv .written .same-length
+same-length-2 c = c .before .loop .inv .left .size
 
 returns-2 : tie.Need-returns-2 Inv-loop μ-loop
-returns-2 c = fill-end (c .before .loop .inv) (omega arith)
+returns-2 c = fill-end (c .before .loop .inv) (omega arith) (c .before .before .before .before .pre .1)
 
 pub fill-spec : {M : Type 1} → statement M
 fill-spec =

@@ -14,7 +14,7 @@ abbrev μ-loop : tie.MeasureT-loop
 μ-loop numbers bytes₀ at₀ i₀ bytes at i = length numbers - i
 
 loop-holds : tie.Need-loop-holds Inv-loop μ-loop
-loop-holds c = put-begin _ _ (c .before .before .pre .1)
+loop-holds c = put-begin _ _
 
 mul-put : tie.Need-mul-put Inv-loop μ-loop
 mul-put c = search needs
@@ -29,7 +29,7 @@ put-requires : tie.Need-put-requires Inv-loop μ-loop
 put-requires c κs =
     let start = c .before .before .before .before .before .before in
     let loop = c .before .before .before .loop in
-    (start .pre .0 (loop .i), put-room (loop .inv) (omega arith))
+    (start .pre .0 (loop .i), put-room (loop .inv) (omega arith) (start .pre .1))
 
 add-i : tie.Need-add-i Inv-loop μ-loop
 add-i c = omega arith
@@ -43,10 +43,10 @@ loop-again c =
     put-next (loop .inv) (omega arith) (c .before .before .put .ensures)
 
 same-length : tie.Need-same-length Inv-loop μ-loop
-same-length c = c .before .loop .inv .written .same-length
+same-length c = c .before .loop .inv .left .size
 
 returns : tie.Need-returns Inv-loop μ-loop
-returns c = put-end (c .before .loop .inv) (omega (arith, c .before .before .before .before .pre .1)) (omega arith)
+returns c = put-end (c .before .loop .inv) (omega arith)
 
 pub put-numbers-spec : {M : Type 1} → statement M
 put-numbers-spec =
