@@ -1,6 +1,5 @@
 pub mod Numbers
 pub mod LayersAt
-pub mod Filling
 pub mod Packing
 pub mod Pairs
 pub mod Layers

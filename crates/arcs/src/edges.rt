@@ -13,13 +13,13 @@ ghost use mathlib.Core.List.{[], _∷_, map};
 ghost use Prim.Native.Nat.{_+_, _*_, _≤_, _<_};
 ghost use lib.ListN.{length, drop};
 ghost use Rattle.leb128.specs.Limits.{«list-limit»};
+ghost use Rattle.leb128.specs.inside.Storing.{Puts};
 ghost use Rattle.sheet.specs.Limits.{«max-nodes»};
 ghost use Rattle.sheet.specs.Layout.{«edge-stride»};
 ghost use Rattle.network.specs.Packed.{stride, packs};
 ghost use Rattle.drawing.specs.Sheet.{«node-at», «edge-of», «edges-of»};
 ghost use Rattle.drawing.specs.Arcs.{«edge-arc»};
 ghost use Rattle.drawing.specs.laws.Good.{GoodEdge, GoodEdges};
-ghost use Rattle.arcs.specs.inside.Filling.{Adds};
 
 // The node at a layer and a position, which count from 1.
 fn node_at(first: &[u16], layer: usize, position: usize) -> usize
@@ -33,7 +33,8 @@ fn node_at(first: &[u16], layer: usize, position: usize) -> usize
 fn put_edge(numbers: &[u16], at: usize, first: &[u16], arcs: &mut [u32], n: usize) -> usize
     requires { ⌜ GoodEdge max-nodes (now first) (drop at (now numbers)) ⌝ }
     requires { ⌜ (at + edge-stride ≤ length (now numbers)) × (n + stride ≤ length (now arcs)) ⌝ }
-    ensures { λ r. ⌜ Adds (now (arcs .entry)) n (packs (edge-arc (edge-of (now (first .entry)) (drop at (now (numbers .entry)))) ∷ [])) (now (arcs .exit)) r ⌝ }
+    ensures { λ r. ⌜ Puts (now (arcs .entry)) n (packs (edge-arc (edge-of (now (first .entry)) (drop at (now (numbers .entry)))) ∷ []))
+        (now (arcs .exit)) r ⌝ }
 {
     let layer = number(numbers, at + EDGE_LAYER);
     let above = number(numbers, at + EDGE_UPPER);
@@ -55,7 +56,8 @@ pub fn put_edges(
 ) -> usize
     requires { ⌜ GoodEdges max-nodes (now first) count (drop start (now numbers)) ⌝ }
     requires { ⌜ (start + edge-stride * count ≤ length (now numbers)) × (n + stride * count ≤ length (now arcs)) ⌝ }
-    ensures { λ r. ⌜ Adds (now (arcs .entry)) n (packs (map edge-arc (edges-of (now (first .entry)) count (drop start (now (numbers .entry)))))) (now (arcs .exit)) r ⌝ }
+    ensures { λ r. ⌜ Puts (now (arcs .entry)) n
+        (packs (map edge-arc (edges-of (now (first .entry)) count (drop start (now (numbers .entry)))))) (now (arcs .exit)) r ⌝ }
 {
     let mut todo = count;
     let mut at = start;

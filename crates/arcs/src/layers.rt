@@ -14,20 +14,21 @@ use sheet::layout::SEPARATIONS;
 ghost use mathlib.Core.List.{flatMap};
 ghost use Prim.Native.Nat.{_+_, _*_, _≤_, _<_};
 ghost use lib.ListN.{length, getD, drop};
+ghost use Rattle.leb128.specs.inside.Storing.{Puts};
 ghost use Rattle.sheet.specs.Limits.{«max-nodes»};
 ghost use Rattle.sheet.specs.Layout.{«first-layer-at», «nodes-at», «separation-stride»};
 ghost use Rattle.network.specs.Packed.{stride, packs, «kink-zero»};
 ghost use Rattle.drawing.specs.Sheet.{«pairs-of»};
 ghost use Rattle.drawing.specs.Arcs.{«separation-arcs», «layer-arcs»};
 ghost use Rattle.drawing.specs.laws.Good.{GoodLayer, GoodLayers};
-ghost use Rattle.arcs.specs.inside.Filling.{Adds};
 ghost use Rattle.arcs.specs.inside.Pieces.{«pair-at», «layer-at», «layers-arcs»};
 
 // Writes the arcs of the pair whose separations stand at an index, the minimum's and the maximum's; answers the index
 // behind them.
 fn put_pair(numbers: &[u16], at: usize, v: usize, arcs: &mut [u32], n: usize) -> usize
     requires { ⌜ (at + separation-stride ≤ length (now numbers)) × (v < max-nodes) × (n + 2 * stride ≤ length (now arcs)) ⌝ }
-    ensures { λ r. ⌜ Adds (now (arcs .entry)) n (packs (separation-arcs (pair-at v (drop at (now (numbers .entry)))))) (now (arcs .exit)) r ⌝ }
+    ensures { λ r. ⌜ Puts (now (arcs .entry)) n (packs (separation-arcs (pair-at v (drop at (now (numbers .entry))))))
+        (now (arcs .exit)) r ⌝ }
 {
     let least = number(numbers, at + MINIMUM);
     let greatest = number(numbers, at + MAXIMUM);
@@ -44,8 +45,10 @@ fn put_pairs(
     arcs: &mut [u32],
     n: usize,
 ) -> usize
-    requires { ⌜ (start + separation-stride * count ≤ length (now numbers)) × (first + count ≤ max-nodes) × (n + 2 * stride * count ≤ length (now arcs)) ⌝ }
-    ensures { λ r. ⌜ Adds (now (arcs .entry)) n (packs (flatMap separation-arcs (pairs-of count first (drop start (now (numbers .entry)))))) (now (arcs .exit)) r ⌝ }
+    requires { ⌜ (start + separation-stride * count ≤ length (now numbers)) × (first + count ≤ max-nodes)
+        × (n + 2 * stride * count ≤ length (now arcs)) ⌝ }
+    ensures { λ r. ⌜ Puts (now (arcs .entry)) n
+        (packs (flatMap separation-arcs (pairs-of count first (drop start (now (numbers .entry)))))) (now (arcs .exit)) r ⌝ }
 {
     let mut todo = count;
     let mut at = start;
@@ -71,8 +74,10 @@ fn put_layer(
     n: usize,
 ) -> usize
     requires { ⌜ GoodLayer max-nodes v (drop at (now numbers)) ⌝ }
-    requires { ⌜ (frame .ground ≤ max-nodes) × (frame .width < kink-zero) × (n + 2 * stride * getD (drop at (now numbers)) nodes-at 0 ≤ length (now arcs)) ⌝ }
-    ensures { λ r. ⌜ Adds (now (arcs .entry)) n (packs (layer-arcs (frame .width) (frame .ground) (layer-at v (drop at (now (numbers .entry)))))) (now (arcs .exit)) r ⌝ }
+    requires { ⌜ (frame .ground ≤ max-nodes) × (frame .width < kink-zero)
+        × (n + 2 * stride * getD (drop at (now numbers)) nodes-at 0 ≤ length (now arcs)) ⌝ }
+    ensures { λ r. ⌜ Puts (now (arcs .entry)) n
+        (packs (layer-arcs (frame .width) (frame .ground) (layer-at v (drop at (now (numbers .entry)))))) (now (arcs .exit)) r ⌝ }
 {
     let count = number(numbers, at);
     let width = frame.width;
@@ -91,7 +96,8 @@ pub fn put_layers(numbers: &[u16], layers: usize, frame: Frame, arcs: &mut [u32]
     requires { ⌜ GoodLayers max-nodes layers 0 (drop first-layer-at (now numbers)) ⌝ }
     requires { ⌜ (first-layer-at ≤ length (now numbers)) × (frame .ground ≤ max-nodes) × (frame .width < kink-zero) ⌝ }
     requires { ⌜ n + stride * length (layers-arcs (now numbers) layers (frame .width) (frame .ground)) ≤ length (now arcs) ⌝ }
-    ensures { λ r. ⌜ Adds (now (arcs .entry)) n (packs (layers-arcs (now (numbers .entry)) layers (frame .width) (frame .ground))) (now (arcs .exit)) r ⌝ }
+    ensures { λ r. ⌜ Puts (now (arcs .entry)) n (packs (layers-arcs (now (numbers .entry)) layers (frame .width) (frame .ground)))
+        (now (arcs .exit)) r ⌝ }
 {
     let mut todo = layers;
     let mut at = FIRST_LAYER;

@@ -14,16 +14,16 @@ ghost use mathlib.Core.Path.{_≡_};
 ghost use mathlib.Core.List.{[], _∷_};
 ghost use Prim.Native.Nat.{_+_, _*_, _≤_, _<_};
 ghost use lib.ListN.{length};
+ghost use Rattle.leb128.specs.inside.Storing.{Puts};
 ghost use Rattle.sheet.specs.Limits.{«max-nodes»};
 ghost use Rattle.network.specs.Packed.{stride, packs, «kink-zero», «flow-zero», «high-none»};
 ghost use Rattle.drawing.specs.Arcs.{«edge-arc-between», «maximum-arc»};
-ghost use Rattle.arcs.specs.inside.Filling.{Adds};
 ghost use Rattle.arcs.specs.inside.Pieces.{«arc-numbers»};
 
 // Writes an arc at an index; answers the index behind it.
 pub fn put_arc(arcs: &mut [u32], at: usize, arc: PackedArc) -> usize
     requires { ⌜ at + stride ≤ length (now arcs) ⌝ }
-    ensures { λ r. ⌜ Adds (now (arcs .entry)) at (arc-numbers arc) (now (arcs .exit)) r ⌝ }
+    ensures { λ r. ⌜ Puts (now (arcs .entry)) at (arc-numbers arc) (now (arcs .exit)) r ⌝ }
 {
     arcs[at + TAIL] = arc.tail;
     arcs[at + HEAD] = arc.head;

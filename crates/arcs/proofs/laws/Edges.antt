@@ -1,4 +1,4 @@
--- The arcs of edges, written one after the other: the numbers of an edge give its arc, and each edge is a step of filling.
+-- The arcs of edges, written one after the other: the numbers of an edge give its arc, and each edge is a part of what is left.
 use Prim.Native.Nat.{ℕ, zero, suc, _+_, _-_, _*_, _≤_, _<_}
 use mathlib.Core.Path.{_≡_, _∙_, ap}
 use mathlib.Core.List.{List, [], _∷_, map}
@@ -6,6 +6,8 @@ use native.Mathlib.Omega.{arith}
 use lib.ListN.{length, getD, drop}
 use lib.Seq.{drop-drop}
 use Rattle.leb128.specs.Limits.{list-limit}
+use Rattle.leb128.specs.inside.Storing.{Puts}
+use Rattle.leb128.specs.laws.Storing.{Left, left-end}
 use Rattle.sheet.specs.Limits.{max-nodes}
 use Rattle.sheet.specs.Layout.{edge-stride, edge-layer-at, edge-upper-at, edge-lower-at, edge-kind-at}
 use Rattle.network.specs.Packed.{stride, packs}
@@ -13,9 +15,8 @@ use Rattle.network.specs.laws.PackedBack.{packs-length}
 use Rattle.drawing.specs.Sheet.{node-at, edge-of, edges-of}
 use Rattle.drawing.specs.Arcs.{edge-arc-between, edge-arc}
 use Rattle.drawing.specs.laws.Good.{GoodEdge, GoodEdges}
-use Rattle.arcs.specs.inside.Filling.{Filling, Adds}
 use Rattle.arcs.specs.Words.{Small}
-use Rattle.arcs.proofs.laws.Filling.{filling-arcs}
+use Rattle.arcs.proofs.laws.Packing.{left-arcs}
 use Rattle.arcs.proofs.laws.Numbers.{less-one, number-behind}
 
 -- the four numbers of the edge at an index
@@ -52,16 +53,18 @@ module _ {n : ℕ} {first : List ℕ} (at : ℕ) (s : List ℕ) (g : GoodEdge n 
     ends-few = (rw (e5, layer-is, above-is) (g .upper), rw (e6, layer-is, below-is) (g .lower))
 
     -- the arc between them is the edge's
-    pub edge-adds : {a b x : List ℕ} {i m : ℕ} → x ≡ packs (edge-arc-between kind upper lower ∷ []) → Adds a i x b m
-        → Adds a i (packs (edge-arc (edge-of first (drop at s)) ∷ [])) b m
-    edge-adds e7 x = rw (e7, e5, e6, layer-is, above-is, below-is, kind-is) at x
+    pub edge-puts : {a b x : List ℕ} {i m : ℕ} → x ≡ packs (edge-arc-between kind upper lower ∷ []) → Puts a i x b m
+        → Puts a i (packs (edge-arc (edge-of first (drop at s)) ∷ [])) b m
+    edge-puts e7 x = rw (e7, e5, e6, layer-is, above-is, below-is, kind-is) at x
 
 -- the first of some edges, and the others
 edges-next : (first : List ℕ) (k at : ℕ) (s : List ℕ) → 0 < k
-    → map edge-arc (edges-of first k (drop at s)) ≡ edge-arc (edge-of first (drop at s)) ∷ map edge-arc (edges-of first (k - 1) (drop (at + edge-stride) s))
+    → map edge-arc (edges-of first k (drop at s))
+    ≡ edge-arc (edge-of first (drop at s)) ∷ map edge-arc (edges-of first (k - 1) (drop (at + edge-stride) s))
 edges-next first zero at s h = absurd (omega arith)
 edges-next first (suc k) at s h =
-    ap (λ (t : List ℕ). edge-arc (edge-of first (drop at s)) ∷ map edge-arc (edges-of first k t)) (drop-drop edge-stride at s) ∙ rw (less-one k)
+    ap (λ (t : List ℕ). edge-arc (edge-of first (drop at s)) ∷ map edge-arc (edges-of first k t)) (drop-drop edge-stride at s)
+    ∙ rw (less-one k)
 
 -- the first of some good edges
 pub first-good : (n : ℕ) (first : List ℕ) (k : ℕ) (s : List ℕ) → 0 < k → GoodEdges n first k s → GoodEdge n first s
@@ -79,30 +82,29 @@ pub record EdgesLeft (s first : List ℕ) (start count n : ℕ) (old new : List 
   pub inside : at + edge-stride * todo ≤ length s
   pub room : m + stride * todo ≡ n + stride * count
   pub good : GoodEdges max-nodes first todo (drop at s)
-  pub left : Filling old n (packs (map edge-arc (edges-of first count (drop start s)))) new m (packs (map edge-arc (edges-of first todo (drop at s))))
+  pub left : Left old n (packs (map edge-arc (edges-of first count (drop start s)))) new m
+      (packs (map edge-arc (edges-of first todo (drop at s))))
 
--- the next edge is good
-pub edge-good : {s first old new : List ℕ} {start count n todo at m : ℕ}
-    → EdgesLeft s first start count n old new todo at m → 0 < todo → GoodEdge max-nodes first (drop at s)
-edge-good {s} {first} {old} {new} {start} {count} {n} {todo} {at} {m} p h =
-    first-good max-nodes first todo (drop at s) h (p .good)
+module _ {s first old new : List ℕ} {start count n todo at m : ℕ} (p : EdgesLeft s first start count n old new todo at m) where
+  -- the next edge is good
+  pub edge-good : 0 < todo → GoodEdge max-nodes first (drop at s)
+  edge-good h = first-good max-nodes first todo (drop at s) h (p .good)
 
--- one edge more
-pub edges-step : {s first old new newer : List ℕ} {start count n todo at m l : ℕ} → EdgesLeft s first start count n old new todo at m → 0 < todo
-    → Adds new m (packs (edge-arc (edge-of first (drop at s)) ∷ [])) newer l → EdgesLeft s first start count n old newer (todo - 1) (at + edge-stride) l
-edges-step {s} {first} {old} {new} {newer} {start} {count} {n} {todo} {at} {m} {l} p h a =
-    let edge = edge-arc (edge-of first (drop at s)) ∷ [] in
-    record {
-      inside = omega (arith, p .inside);
-      room = omega (arith, p .room, a .count, packs-length edge);
-      good = rest-good max-nodes first todo at s h (p .good);
-      left =
-          filling-arcs edge (map edge-arc (edges-of first (todo - 1) (drop (at + edge-stride) s)))
-          (rw (edges-next first todo at s h) at (p .left)) a;
-    }
+  -- one edge more
+  pub edges-step : {newer : List ℕ} {l : ℕ} → 0 < todo → Puts new m (packs (edge-arc (edge-of first (drop at s)) ∷ [])) newer l
+      → EdgesLeft s first start count n old newer (todo - 1) (at + edge-stride) l
+  edges-step h a =
+      let edge = edge-arc (edge-of first (drop at s)) ∷ [] in
+      record {
+        inside = omega (arith, p .inside);
+        room = omega (arith, p .room, a .behind, packs-length edge);
+        good = rest-good max-nodes first todo at s h (p .good);
+        left =
+            left-arcs edge (map edge-arc (edges-of first (todo - 1) (drop (at + edge-stride) s)))
+            (rw (edges-next first todo at s h) at (p .left)) a;
+      }
 
--- no edge is left
-pub edges-end : {s first old new : List ℕ} {start count n todo at m : ℕ} → EdgesLeft s first start count n old new todo at m → todo ≡ 0
-    → Adds old n (packs (map edge-arc (edges-of first count (drop start s)))) new m
-unfolding packs
-edges-end p e = rw e at (p .left)
+  -- no edge is left
+  pub edges-end : todo ≡ 0 → Puts old n (packs (map edge-arc (edges-of first count (drop start s)))) new m
+  unfolding packs
+  edges-end e = left-end (rw e at (p .left))

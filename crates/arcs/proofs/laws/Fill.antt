@@ -5,6 +5,8 @@ use mathlib.Core.List.{List, _++_, map, flatMap}
 use native.Mathlib.Omega.{arith}
 use lib.ListN.{length, getD, drop, take, length-append, length-drop, length-map}
 use lib.Seq.{getD-take, drop-drop}
+use Rattle.leb128.specs.inside.Storing.{Puts}
+use Rattle.leb128.specs.laws.Storing.{sets-front}
 use Rattle.sheet.specs.Limits.{max-nodes, max-edges}
 use Rattle.sheet.specs.Layout.{first-layer-at, nodes-at, edges-at, edge-stride, next-layer}
 use Rattle.network.specs.Network.{Arc}
@@ -15,11 +17,10 @@ use Rattle.drawing.specs.Arcs.{edge-arc, layer-arcs, network}
 use Rattle.drawing.specs.laws.Good.{GoodLayers, GoodEdges, GoodRest, Good}
 use Rattle.drawing.specs.laws.Proper.{edges-length}
 use Rattle.drawing.specs.laws.ArcCount.{layers-count}
-use Rattle.arcs.specs.inside.Filling.{Adds}
 use Rattle.arcs.specs.inside.Pieces.{layers-arcs}
 use Rattle.arcs.specs.inside.Plans.{Planned, written}
 use Rattle.arcs.specs.declared.Plan.{Plan}
-use Rattle.arcs.proofs.laws.Filling.{filling-begin, filling-arcs, filling-end, added-front}
+use Rattle.arcs.proofs.laws.Packing.{puts-arcs}
 
 -- the last first node is at most n
 last-few : (n k v : ℕ) (s : List ℕ) → GoodLayers n k v s → v ≤ n → getD (first-nodes k v s) k 0 ≤ n
@@ -109,17 +110,16 @@ module _ {s first : List ℕ} {p : Plan} (g : Good max-nodes s) (planned : Plann
       ∙ omega (arith, edges-count, layers-room w)
 
   -- where the arcs of the edges end
-  pub edges-end : {a b : List ℕ} {n m : ℕ} → Adds a n (packs edge-arcs) b m → m ≡ n + stride * p .edges
-  edges-end x = omega (arith, x .count, packs-length edge-arcs, edges-count)
+  pub edges-end : {a b : List ℕ} {n m : ℕ} → Puts a n (packs edge-arcs) b m → m ≡ n + stride * p .edges
+  edges-end x = omega (arith, x .behind, packs-length edge-arcs, edges-count)
 
   -- edges and layers make the network
-  pub fill-end : {a b c : List ℕ} {m k : ℕ} (w : ℕ) → Adds a 0 (packs edge-arcs) b m → Adds b m (packs (layers-arcs s (p .layers) w (p .nodes))) c k
+  pub fill-end : {a b c : List ℕ} {m k : ℕ} (w : ℕ) → stride * (p .edges + 2 * p .nodes) ≤ length a
+      → Puts a 0 (packs edge-arcs) b m → Puts b m (packs (layers-arcs s (p .layers) w (p .nodes))) c k
       → c ≡ written (network (at-width w (sheet-of s))) a
-  unfolding written packed packs
-  fill-end {a} {b} {c} {m} {k} w x y =
-      let es : List Arc = edge-arcs in
-      let ls : List Arc = layers-arcs s (p .layers) w (p .nodes) in
-      let all = filling-end (packs ls) (filling-arcs es ls (filling-begin a 0 (packs (es ++ ls))) x) y in
-      added-front all
-      ∙ ap (λ (n : ℕ). packs (es ++ ls) ++ drop n a) (packs-length (es ++ ls))
-      ∙ ap (λ (l : List Arc). packs l ++ drop (stride * length l) a) (sym (arcs-are w))
+  unfolding written packed
+  fill-end {a} {c = c} {k = k} w room x y =
+      let arcs : List Arc = network (at-width w (sheet-of s)) .arcs in
+      let all : Puts a 0 (packs arcs) c k = rw (arcs-are w) (puts-arcs edge-arcs (layers-arcs s (p .layers) w (p .nodes)) x y) in
+      let size : length (packs arcs) ≡ stride * length arcs = packs-length arcs in
+      all .stored ∙ sets-front (packs arcs) a (omega (arith, size, plan-arcs w)) ∙ ap (λ (n : ℕ). packs arcs ++ drop n a) size

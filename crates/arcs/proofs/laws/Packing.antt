@@ -1,35 +1,41 @@
--- Five stores make an arc, and the numbers of each kind of arc are its packing: stores one by one, kinds by cases.
-use Prim.Native.Nat.{ℕ, zero, suc, _+_, _-_, _≤_}
+-- Five stores make an arc, arcs are stored one behind the other, and the numbers of each kind of arc are its packing, by cases.
+use Prim.Native.Nat.{ℕ, zero, suc, _+_, _-_}
 use mathlib.Core.Path.{_≡_, refl}
-use mathlib.Core.List.{List, [], _∷_}
+use mathlib.Core.List.{List, [], _∷_, _++_}
 use native.Mathlib.Numerals.{add-one}
 use native.Mathlib.Omega.{arith}
 use lib.IntN.{ℤ, pos, negℤ}
-use lib.ListN.{length, set, length-set}
-use Rattle.network.specs.Packed.{tail-at, head-at, kink-at, low-at, high-at, stride, kink-zero, flow-zero, low-none, high-none, raised, packs}
+use lib.ListN.{set}
+use Rattle.leb128.specs.inside.Storing.{Puts}
+use Rattle.leb128.specs.laws.Storing.{puts-then, Left, left-part}
+use Rattle.network.specs.Packed.{tail-at, head-at, kink-at, low-at, high-at, stride}
+use Rattle.network.specs.Packed.{kink-zero, flow-zero, low-none, high-none, raised, packs}
+use Rattle.network.specs.Network.{Arc, upper-bound}
+use Rattle.network.specs.laws.PackedBack.{packs-append}
 use Rattle.drawing.specs.Arcs.{edge-arc-between, maximum-arc}
-use Rattle.network.specs.Network.{upper-bound}
-use Rattle.arcs.specs.inside.Filling.{Filling, Adds}
-use Rattle.arcs.proofs.laws.Filling.{filling-begin, filling-store}
 
 -- the five stores of an arc
-pub arc-adds : (a : List ℕ) (n t h k l u : ℕ) → n + stride ≤ length a
-    → Adds a n (t ∷ h ∷ k ∷ l ∷ u ∷ []) (set (set (set (set (set a (n + tail-at) t) (n + head-at) h) (n + kink-at) k) (n + low-at) l) (n + high-at) u) (n + stride)
-arc-adds a n t h k l u room =
-    let z : n + tail-at ≡ n = omega arith in
-    let p : Filling a n (t ∷ h ∷ k ∷ l ∷ u ∷ []) a (n + tail-at) (t ∷ h ∷ k ∷ l ∷ u ∷ []) = rw z (filling-begin a n (t ∷ h ∷ k ∷ l ∷ u ∷ [])) in
-    let a1 : List ℕ = set a (n + tail-at) t in
-    let a2 : List ℕ = set a1 (n + head-at) h in
-    let a3 : List ℕ = set a2 (n + kink-at) k in
-    let s1 = length-set a (n + tail-at) t in
-    let s2 = length-set a1 (n + head-at) h in
-    let s3 = length-set a2 (n + kink-at) k in
-    let s4 = length-set a3 (n + low-at) l in
-    let p1 = filling-store (n + tail-at) (n + head-at) t (h ∷ k ∷ l ∷ u ∷ []) (omega arith) (omega arith) p in
-    let p2 = filling-store (n + head-at) (n + kink-at) h (k ∷ l ∷ u ∷ []) (omega arith) (omega arith) p1 in
-    let p3 = filling-store (n + kink-at) (n + low-at) k (l ∷ u ∷ []) (omega arith) (omega arith) p2 in
-    let p4 = filling-store (n + low-at) (n + high-at) l (u ∷ []) (omega arith) (omega arith) p3 in
-    filling-store (n + high-at) (n + stride) u [] (omega arith) (omega arith) p4
+pub arc-puts : (a : List ℕ) (n t h k l u : ℕ)
+    → Puts a n (t ∷ h ∷ k ∷ l ∷ u ∷ [])
+    (set (set (set (set (set a (n + tail-at) t) (n + head-at) h) (n + kink-at) k) (n + low-at) l) (n + high-at) u) (n + stride)
+arc-puts a n t h k l u =
+    let at-tail : n + tail-at ≡ n = omega arith in
+    let at-head : n + head-at ≡ suc n = omega arith in
+    let at-kink : n + kink-at ≡ suc (suc n) = omega arith in
+    let at-low : n + low-at ≡ suc (suc (suc n)) = omega arith in
+    let at-high : n + high-at ≡ suc (suc (suc (suc n))) = omega arith in
+    record { stored = rw (at-tail, at-head, at-kink, at-low, at-high); behind = omega arith }
+
+-- some arcs are stored, and others behind them
+pub puts-arcs : {a b c : List ℕ} {n m l : ℕ} (some others : List Arc) → Puts a n (packs some) b m → Puts b m (packs others) c l
+    → Puts a n (packs (some ++ others)) c l
+puts-arcs some others p q = rw (packs-append some others) (puts-then p q)
+
+-- some of the arcs that are left are stored
+pub left-arcs : {old whole new new′ : List ℕ} {start at next : ℕ} (some rest : List Arc)
+    → Left old start whole new at (packs (some ++ rest)) → Puts new at (packs some) new′ next
+    → Left old start whole new′ next (packs rest)
+left-arcs some rest left p = left-part (rw (packs-append some rest) at left) p
 
 -- an arc that keeps its head from standing further right of its tail than k
 pub upper-bound-packs : (t h k : ℕ) (z : ℤ) → k ≡ raised kink-zero z

@@ -1,6 +1,6 @@
 -- `arcs::edges::put_edge` meets its contract: the ends of a good edge are nodes, and the arc between them is written.
 use borrow.Author.Needs.{needs}
-use Rattle.arcs.proofs.laws.Edges.{upper-there, lower-there, ends-few, edge-adds}
+use Rattle.arcs.proofs.laws.Edges.{upper-there, lower-there, ends-few, edge-puts}
 use Rattle.arcs.proofs.edges.put_edge.Statement.{statement}
 use Rattle.arcs.proofs.edges.put_edge.Tie as tie
 
@@ -70,7 +70,7 @@ returns c =
     let number4 = c .before .before .before .before .before .before .before .number4 in
     let node-at = c .before .before .before .before .before .before .node-at in
     let node-at2 = c .before .before .before .before .before .node-at2 in
-    edge-adds (start .args .at) (start .args .numbers .now) (start .pre .0) (number .ensures) (number2 .ensures)
+    edge-puts (start .args .at) (start .args .numbers .now) (start .pre .0) (number .ensures) (number2 .ensures)
     (number3 .ensures) (number4 .ensures) (node-at .ensures) (node-at2 .ensures)
     (c .before .before .before .edge .ensures) (c .before .before .put-arc .ensures)
 

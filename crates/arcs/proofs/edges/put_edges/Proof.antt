@@ -2,8 +2,8 @@
 use mathlib.Core.Path.{refl}
 use native.Mathlib.Omega.{arith}
 use borrow.Author.Needs.{needs}
+use Rattle.leb128.specs.laws.Storing.{left-begin}
 use Rattle.arcs.proofs.laws.Edges.{EdgesLeft, edge-good, edges-step, edges-end}
-use Rattle.arcs.proofs.laws.Filling.{filling-begin}
 use Rattle.arcs.proofs.edges.put_edges.Statement.{statement}
 use Rattle.arcs.proofs.edges.put_edges.Tie as tie
 
@@ -16,7 +16,7 @@ abbrev μ-loop : tie.MeasureT-loop
 
 loop-holds : tie.Need-loop-holds Inv-loop μ-loop
 loop-holds c =
-    record { inside = omega arith; room = refl; good = c .before .before .before .pre .0; left = filling-begin _ _ _ }
+    record { inside = omega arith; room = refl; good = c .before .before .before .pre .0; left = left-begin _ _ _ }
 
 put-edge-requires : tie.Need-put-edge-requires Inv-loop μ-loop
 put-edge-requires c κs =

@@ -38,7 +38,6 @@ put-layers-requires c κs =
           arith,
           layers-room (start .pre .0) (start .pre .1 .0) (start .args .width),
           edges-end (start .pre .0) (start .pre .1 .0) (put-edges .ensures),
-          put-edges .ensures .size,
           start .pre .1 .1,
         ),
       ),
@@ -51,7 +50,7 @@ returns : tie.Need-returns
 returns c =
     let start = c .before .before .before .before .before .before .before .before .before .before .before .before .before in
     let put-edges = c .before .before .before .before .before .before .put-edges in
-    fill-end (start .pre .0) (start .pre .1 .0) (start .args .width) (put-edges .ensures)
+    fill-end (start .pre .0) (start .pre .1 .0) (start .args .width) (start .pre .1 .1 .1) (put-edges .ensures)
     (c .before .before .put-layers .ensures)
 
 pub fill-spec : {M : Type 1} → statement M

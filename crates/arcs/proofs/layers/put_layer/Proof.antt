@@ -1,7 +1,7 @@
 -- `arcs::layers::put_layer` meets its contract: left boundary, pairs and right boundary make a layer.
 use native.Mathlib.Omega.{arith}
 use borrow.Author.Needs.{needs}
-use Rattle.arcs.proofs.laws.Layers.{count-room, pairs-size, layer-adds}
+use Rattle.arcs.proofs.laws.Layers.{count-room, pairs-size, layer-puts}
 use Rattle.arcs.proofs.laws.LayersAt.{count-there, count-few, layer-there}
 use Rattle.arcs.proofs.layers.put_layer.Statement.{statement}
 use Rattle.arcs.proofs.layers.put_layer.Tie as tie
@@ -40,8 +40,7 @@ put-pairs-requires c κs =
         count-few (start .args .at) (start .args .numbers .now) (start .pre .0) (number .ensures),
         count-room (start .args .at) (start .args .numbers .now) (start .pre .0) (number .ensures) (start .args .n) _
             (start .pre .1 .2),
-        put-arc .ensures .count,
-        put-arc .ensures .size,
+        put-arc .ensures .behind,
       ),
     )
 
@@ -77,10 +76,8 @@ put-arc-requires-2 c κs =
       count-few (start .args .at) (start .args .numbers .now) (start .pre .0) (number .ensures),
       count-room (start .args .at) (start .args .numbers .now) (start .pre .0) (number .ensures) (start .args .n) _
           (start .pre .1 .2),
-      put-arc .ensures .count,
-      put-arc .ensures .size,
+      put-arc .ensures .behind,
       pairs-size (start .args .at) (start .args .numbers .now) (start .pre .0) (number .ensures) (put-pairs .ensures),
-      put-pairs .ensures .size,
     )
 
 same-length : tie.Need-same-length
@@ -88,13 +85,13 @@ same-length c = search needs
 
 returns : tie.Need-returns
 returns c =
-    let start = c .before .before .before .before .before .before .before .before .before .before .before .before .before .before .before .before .before in
-    let number = c .before .before .before .before .before .before .before .before .before .before .before .before .before .before .number in
-    let upper-bound = c .before .before .before .before .before .before .before .before .before .before .before .before .upper-bound in
-    let put-arc = c .before .before .before .before .before .before .before .before .before .before .before .put-arc in
+    let left = c .before .before .before .before .before .before .before .before .before .before .before in
+    let start = left .before .before .before .before .before .before in
+    let number = left .before .before .before .number in
+    let upper-bound = left .before .upper-bound in
     let put-pairs = c .before .before .before .before .before .before .before .put-pairs in
-    layer-adds (start .args .frame .width) (start .args .at) (start .args .numbers .now) (number .ensures .is)
-    (upper-bound .ensures) (c .before .before .before .upper-bound2 .ensures) (put-arc .ensures) (put-pairs .ensures)
+    layer-puts (start .args .frame .width) (start .args .at) (start .args .numbers .now) (number .ensures .is)
+    (upper-bound .ensures) (c .before .before .before .upper-bound2 .ensures) (left .put-arc .ensures) (put-pairs .ensures)
     (c .before .before .put-arc2 .ensures)
 
 pub put-layer-spec : {M : Type 1} → statement M

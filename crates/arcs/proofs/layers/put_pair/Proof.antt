@@ -1,6 +1,6 @@
 -- `arcs::layers::put_pair` meets its contract: two arcs make a pair.
 use borrow.Author.Needs.{needs}
-use Rattle.arcs.proofs.laws.Pairs.{pair-adds}
+use Rattle.arcs.proofs.laws.Pairs.{pair-puts}
 use Rattle.arcs.proofs.layers.put_pair.Statement.{statement}
 use Rattle.arcs.proofs.layers.put_pair.Tie as tie
 
@@ -44,7 +44,7 @@ returns c =
     let number2 = c .before .before .before .before .before .before .before .before .before .before .number2 in
     let upper-bound = c .before .before .before .before .before .before .before .before .upper-bound in
     let put-arc = c .before .before .before .before .before .before .before .put-arc in
-    pair-adds (start .args .at) (start .args .numbers .now) (number .ensures .is) (number2 .ensures .is)
+    pair-puts (start .args .at) (start .args .numbers .now) (number .ensures .is) (number2 .ensures .is)
     (upper-bound .ensures) (c .before .before .before .maximum .ensures) (put-arc .ensures)
     (c .before .before .put-arc2 .ensures)
 

@@ -2,8 +2,8 @@
 use mathlib.Core.Path.{refl}
 use native.Mathlib.Omega.{arith}
 use borrow.Author.Needs.{needs}
+use Rattle.leb128.specs.laws.Storing.{left-begin}
 use Rattle.arcs.proofs.laws.Pairs.{PairsLeft, pairs-step, pairs-end}
-use Rattle.arcs.proofs.laws.Filling.{filling-begin}
 use Rattle.arcs.proofs.layers.put_pairs.Statement.{statement}
 use Rattle.arcs.proofs.layers.put_pairs.Tie as tie
 
@@ -15,7 +15,7 @@ abbrev μ-loop : tie.MeasureT-loop
 μ-loop numbers start count first arcs₀ n todo₀ at₀ v₀ m₀ arcs todo at v m = todo
 
 loop-holds : tie.Need-loop-holds Inv-loop μ-loop
-loop-holds c = record { inside = omega arith; room = refl; left = filling-begin _ _ _ }
+loop-holds c = record { inside = omega arith; room = refl; left = left-begin _ _ _ }
 
 put-pair-requires : tie.Need-put-pair-requires Inv-loop μ-loop
 put-pair-requires c κs =

@@ -2,7 +2,7 @@
 use native.Mathlib.Omega.{arith}
 use lib.ListN.{length-set}
 use borrow.Author.Needs.{needs}
-use Rattle.arcs.proofs.laws.Packing.{arc-adds}
+use Rattle.arcs.proofs.laws.Packing.{arc-puts}
 use Rattle.arcs.proofs.pack.put_arc.Statement.{statement}
 use Rattle.arcs.proofs.pack.put_arc.Tie as tie
 
@@ -59,8 +59,8 @@ same-length c = search needs
 
 returns : tie.Need-returns
 returns c =
-    arc-adds (c .args .arcs .now) (c .args .at) (c .args .arc .tail) (c .args .arc .head) (c .args .arc .kink)
-    (c .args .arc .low) (c .args .arc .high) (omega arith)
+    arc-puts (c .args .arcs .now) (c .args .at) (c .args .arc .tail) (c .args .arc .head) (c .args .arc .kink)
+    (c .args .arc .low) (c .args .arc .high)
 
 pub put-arc-spec : {M : Type 1} → statement M
 put-arc-spec =
