@@ -1,4 +1,3 @@
-pub mod Filling
 pub mod Numbers
 pub mod Fits
 pub mod Finish

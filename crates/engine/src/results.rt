@@ -5,8 +5,9 @@ use network::layout::FLOW_ZERO;
 ghost use mathlib.Core.Path.{_≡_};
 ghost use Prim.Native.Nat.{_*_, _≤_, _<_};
 ghost use lib.ListN.{length};
+ghost use lib.Seq.{sets};
+ghost use Rattle.network.specs.Sums.{upto};
 ghost use Rattle.network.specs.Packed.{«high-none»};
-ghost use Rattle.engine.specs.inside.Filling.{filled};
 ghost use Rattle.engine.specs.inside.Results.{«place-at», «number-of», «number-at», Places, Flows};
 
 // The flow 0 as it is stored.
@@ -28,7 +29,7 @@ fn coordinate(nodes: &[u32], count: usize, v: usize) -> u16
 pub fn put_places(nodes: &[u32], count: usize, places: &mut [u16])
     requires { ⌜ Places (now nodes) count ⌝ }
     requires { ⌜ count ≤ length (now places) ⌝ }
-    ensures { λ _. ⌜ now (places .exit) ≡ filled count (place-at (now (nodes .entry))) (now (places .entry)) ⌝ }
+    ensures { λ _. ⌜ now (places .exit) ≡ sets (now (places .entry)) 0 (upto count (place-at (now (nodes .entry)))) ⌝ }
 {
     let mut v = 0;
     while v < count {
@@ -49,7 +50,7 @@ fn signed(x: u32) -> i32
 pub fn put_list(flows: &[u32], list: &mut [i32])
     requires { ⌜ Flows (now flows) ⌝ }
     requires { ⌜ length (now flows) ≤ length (now list) ⌝ }
-    ensures { λ _. ⌜ now (list .exit) ≡ filled (length (now (flows .entry))) (number-at (now (flows .entry))) (now (list .entry)) ⌝ }
+    ensures { λ _. ⌜ now (list .exit) ≡ sets (now (list .entry)) 0 (upto (length (now (flows .entry))) (number-at (now (flows .entry)))) ⌝ }
 {
     let mut i = 0;
     while i < flows.len() {

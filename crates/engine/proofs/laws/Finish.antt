@@ -8,7 +8,8 @@ use native.Mathlib.Omega.{arith}
 use lib.Dec.{T}
 use lib.IntN.{ℤ, pos, _-ℤ_}
 use lib.ListN.{length, getD, take, drop, length-map, length-append, length-drop, List·getD-map}
-use lib.Seq.{take-at, drop-at, ext-getD}
+use lib.Seq.{sets, take-at, drop-at, ext-getD}
+use Rattle.leb128.specs.laws.Storing.{sets-front}
 use Rattle.network.specs.Sums.{upto}
 use Rattle.network.specs.Network.{Network, integers, LeftmostLeast, total}
 use Rattle.network.specs.Flows.{rules, complementary}
@@ -38,7 +39,6 @@ use Rattle.arcs.specs.laws.HeldArcs.{Holds, proper, size-is, edges-front}
 use Rattle.checker.proofs.laws.DecisionParts.{less-none}
 use Rattle.engine.specs.Draws.{Returns}
 use Rattle.engine.proofs.laws.Fits.{meant-is}
-use Rattle.engine.specs.inside.Filling.{filled}
 use Rattle.engine.specs.inside.Results.{place-at, number-at, Places, Flows}
 use Rattle.engine.specs.inside.Stages.{Settled}
 
@@ -109,6 +109,10 @@ module _ {a : List ℕ} {c : Counts} (h : Holds a c) (flows nodes : List ℕ) (f
       ∙ upto-length (c .nodes + 1 - 1) (λ v. pos (at (potentials nodes) v) -ℤ pos potential-zero)
       ∙ omega arith
 
+  -- as many numbers of the list as the certificate has
+  y-size : length y ≡ certificate-size S
+  y-size = upto-length (c .arcs) (number-at flows) ∙ size-is h
+
   -- what is written are the coordinates
   written-places : upto (c .nodes) (place-at nodes) ≡ p
   written-places =
@@ -130,19 +134,22 @@ module _ {a : List ℕ} {c : Counts} (h : Holds a c) (flows nodes : List ℕ) (f
       ∙ ap (total (network S)) (sym naturals) ∙ same-total S p (drawing-is .is-least .candidate)
 
   module _ (p₀ p′ : List ℕ) (y₀ y′ : List ℤ) (places-enough : c .nodes ≤ length p₀) (list-enough : c .arcs ≤ length y₀)
-      (ep : p′ ≡ filled (c .nodes) (place-at nodes) p₀) (ey : y′ ≡ filled (length flows) (number-at flows) y₀) where
+      (ep : p′ ≡ sets p₀ 0 (upto (c .nodes) (place-at nodes))) (ey : y′ ≡ sets y₀ 0 (upto (length flows) (number-at flows))) where
     -- the places, in front
     places-are : p′ ≡ p ++ drop (S .nodes) p₀
-    unfolding filled
-    places-are = ep ∙ ap₂ (λ (l r : List ℕ). l ++ r) written-places (ap (λ (k : ℕ). drop k p₀) (h .nodes-are))
+    places-are =
+        ep
+        ∙ ap (λ (l : List ℕ). sets p₀ 0 l) written-places
+        ∙ sets-front p p₀ (omega (arith, p-size))
+        ∙ ap (λ (k : ℕ). p ++ drop k p₀) (p-size ∙ h .nodes-are)
 
     -- the list, in front
     list-is : y′ ≡ y ++ drop (certificate-size S) y₀
-    unfolding filled
     list-is =
         ey
-        ∙ ap₂ (λ (l r : List ℤ). l ++ r) (ap (λ (k : ℕ). upto k (number-at flows)) flows-are)
-        (ap (λ (k : ℕ). drop k y₀) (flows-are ∙ size-is h))
+        ∙ ap (λ (k : ℕ). sets y₀ 0 (upto k (number-at flows))) flows-are
+        ∙ sets-front y y₀ (omega (arith, y-size, size-is h))
+        ∙ ap (λ (k : ℕ). y ++ drop k y₀) y-size
 
     -- the front of the places
     pub front : take (S .nodes) p′ ≡ p
@@ -151,9 +158,6 @@ module _ {a : List ℕ} {c : Counts} (h : Holds a c) (flows nodes : List ℕ) (f
     -- the front of the list
     numbers-front : take (certificate-size S) y′ ≡ y
     numbers-front = ap (take (certificate-size S)) list-is ∙ take-at y (drop (certificate-size S) y₀) (certificate-size S) y-size
-      where
-        y-size : length y ≡ certificate-size S
-        y-size = upto-length (c .arcs) (number-at flows) ∙ size-is h
 
     -- the total
     total-of : (r : ℕ) → r ≡ min u32-most (lengths-of (take (c .nodes - 0) p′) (take (stride * c .edges - 0) a))
@@ -170,7 +174,6 @@ module _ {a : List ℕ} {c : Counts} (h : Holds a c) (flows nodes : List ℕ) (f
         → Returns S p₀ y₀ p′ y′ r
     returned r e =
         let t : r ≡ total-length S p = total-of r e in
-        let size : length y ≡ certificate-size S = upto-length (c .arcs) (number-at flows) ∙ size-is h in
         record {
           room = record { nodes = omega (arith, h .nodes-are); numbers = omega (arith, size-is h) };
           leftmost = subst (LeftmostDrawing S) (sym front) drawing-is;
@@ -180,10 +183,10 @@ module _ {a : List ℕ} {c : Counts} (h : Holds a c) (flows nodes : List ℕ) (f
           list-size =
               ap length list-is
               ∙ length-append y (drop (certificate-size S) y₀)
-              ∙ omega (arith, size, length-drop (certificate-size S) y₀, size-is h);
+              ∙ omega (arith, y-size, length-drop (certificate-size S) y₀, size-is h);
           list-behind =
               ap (drop (certificate-size S)) list-is
-              ∙ drop-at y (drop (certificate-size S) y₀) (certificate-size S) size;
+              ∙ drop-at y (drop (certificate-size S) y₀) (certificate-size S) y-size;
           rules = subst (λ (l : List ℤ). T (meets-rules S l)) (sym numbers-front) (subst T (same-rules S y) rules-met);
           bound-is = ap (bound S) numbers-front ∙ bound-is ∙ ap pos (sym t);
         }

@@ -1,32 +1,32 @@
--- `engine::results::put_list` meets its contract: each turn fills one number more, and a flow fits 32 bits.
+-- `engine::results::put_list` meets its contract: the loop's invariant is `Left`, and a flow fits 32 bits.
 use mathlib.Core.List.{List}
-use Prim.Native.Nat.{ℕ, _-_, _≤_}
+use Prim.Native.Nat.{ℕ, _-_}
 use lib.IntN.{ℤ, pos, natAbs}
-use lib.ListN.{length-set, length, getD}
+use lib.ListN.{length, getD, drop}
 use mir.Facts.{toZ-ofZ}
 use mir.Syntax.{w32}
-use mir.Val.{SFits, toZ, ofZ}
-use Rattle.network.specs.laws.Sizes.{size-fits}
-use Rattle.engine.proofs.laws.Numbers.{number-size}
-use mathlib.Core.Path.{_≡_, refl, sym, _∙_, ap}
+use mir.Val.{SFits}
+use mathlib.Core.Path.{_≡_, sym, _∙_, ap}
 use native.Mathlib.Omega.{arith}
 use borrow.Author.Needs.{needs}
-use Rattle.engine.specs.inside.Filling.{filled}
+use Rattle.leb128.specs.laws.Storing.{Left, left-begin, copy-next, copy-end}
+use Rattle.network.specs.Sums.{upto}
+use Rattle.network.specs.laws.Indexed.{upto-length, upto-in}
+use Rattle.network.specs.laws.Sizes.{size-fits}
 use Rattle.engine.specs.inside.Results.{number-at}
-use Rattle.engine.proofs.laws.Filling.{filled-none, filled-store}
+use Rattle.engine.proofs.laws.Numbers.{number-size}
 use Rattle.engine.proofs.results.put_list.Statement.{statement}
 use Rattle.engine.proofs.results.put_list.Tie as tie
 
 abbrev Inv-loop : tie.InvT-loop
 Inv-loop flows list₀ i₀ list i =
-    (i ≤ length flows) × (list ≡ filled i (number-at flows) list₀) × (length list ≡ length list₀)
+    Left list₀ 0 (upto (length flows) (number-at flows)) list i (drop i (upto (length flows) (number-at flows)))
 
 abbrev μ-loop : tie.MeasureT-loop
 μ-loop flows list₀ i₀ list i = length flows - i
 
 loop-holds : tie.Need-loop-holds Inv-loop μ-loop
-loop-holds c =
-    (omega arith, sym (filled-none (number-at (c .before .args .flows .now)) (c .before .args .list .now)), refl)
+loop-holds c = left-begin _ _ _
 
 mul-signed : tie.Need-mul-signed Inv-loop μ-loop
 mul-signed c = search needs
@@ -53,18 +53,15 @@ loop-again : tie.Need-loop-again Inv-loop μ-loop
 loop-again c =
     let start = c .before .before .before .before .before in
     let loop = c .before .before .before .loop in
+    let taken = c .before .before .loop-test .taken in
     let flows : List ℕ = start .args .flows .now in
-    let old : List ℤ = start .args .list .now in
     let i : ℕ = loop .i in
     let r : ℤ = c .signed .result in
     let is : r ≡ number-at flows i = c .signed .ensures in
-    let fits : SFits w32 r =
-    size-fits (omega (arith, ap natAbs is, number-size (getD flows i 0) (start .pre .0 .small i (omega arith)))) in (
-      omega arith,
-      filled-store (pos 0) i (number-at flows) old (loop .list) (toZ w32 (ofZ w32 r)) (loop .inv .1) (toZ-ofZ fits ∙ is)
-          (omega (arith, start .pre .1)),
-      length-set (loop .list) i (toZ w32 (ofZ w32 r)) ∙ loop .inv .2,
-    )
+    let small = number-size (getD flows i 0) (start .pre .0 .small i taken) in
+    let fits : SFits w32 r = size-fits (omega (arith, ap natAbs is, small)) in
+    copy-next i (loop .inv) (pos 0) (omega (arith, upto-length (length flows) (number-at flows)))
+    (toZ-ofZ fits ∙ is ∙ sym (upto-in (pos 0) (length flows) (number-at flows) i taken))
 
 same-length : tie.Need-same-length Inv-loop μ-loop
 same-length c = search needs
@@ -72,9 +69,8 @@ same-length c = search needs
 returns : tie.Need-returns Inv-loop μ-loop
 returns c =
     let flows : List ℕ = c .before .before .before .args .flows .now in
-    let old : List ℤ = c .before .before .before .args .list .now in
-    let e : c .before .loop .i ≡ length flows = omega arith in
-    c .before .loop .inv .1 ∙ ap (λ (n : ℕ). filled n (number-at flows) old) e
+    let loop = c .before .loop in
+    copy-end (loop .i) (loop .inv) (omega (arith, upto-length (length flows) (number-at flows))) .stored
 
 pub put-list-spec : {M : Type 1} → statement M
 put-list-spec =

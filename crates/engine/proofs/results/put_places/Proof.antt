@@ -1,28 +1,25 @@
--- `engine::results::put_places` meets its contract: each turn fills one place more.
-use Prim.Native.Nat.{ℕ, _-_, _≤_}
-use lib.ListN.{length-set, length}
-use mathlib.Core.Path.{_≡_, refl, sym, _∙_, ap}
+-- `engine::results::put_places` meets its contract: the loop's invariant is `Left`.
+use Prim.Native.Nat.{ℕ, _-_}
+use mathlib.Core.Path.{sym, _∙_}
 use native.Mathlib.Omega.{arith}
+use lib.ListN.{drop}
 use borrow.Author.Needs.{needs}
-use Rattle.engine.specs.inside.Filling.{filled}
+use Rattle.leb128.specs.laws.Storing.{Left, left-begin, copy-next, copy-end}
+use Rattle.network.specs.Sums.{upto}
+use Rattle.network.specs.laws.Indexed.{upto-length, upto-in}
 use Rattle.engine.specs.inside.Results.{place-at}
-use Rattle.engine.proofs.laws.Filling.{filled-none, filled-store}
 use Rattle.engine.proofs.results.put_places.Statement.{statement}
 use Rattle.engine.proofs.results.put_places.Tie as tie
 
 abbrev Inv-loop : tie.InvT-loop
 Inv-loop nodes count places₀ v₀ places v =
-    (v ≤ count) × (places ≡ filled v (place-at nodes) places₀) × (length places ≡ length places₀)
+    Left places₀ 0 (upto count (place-at nodes)) places v (drop v (upto count (place-at nodes)))
 
 abbrev μ-loop : tie.MeasureT-loop
 μ-loop nodes count places₀ v₀ places v = count - v
 
 loop-holds : tie.Need-loop-holds Inv-loop μ-loop
-loop-holds c = (
-  omega arith,
-  sym (filled-none (place-at (c .before .before .args .nodes .now)) (c .before .before .args .places .now)),
-  refl,
-)
+loop-holds c = left-begin _ _ _
 
 coordinate-requires : tie.Need-coordinate-requires Inv-loop μ-loop
 coordinate-requires c κs = search needs
@@ -43,22 +40,19 @@ loop-again : tie.Need-loop-again Inv-loop μ-loop
 loop-again c =
     let start = c .before .before .before .before .before in
     let loop = c .before .before .loop in
+    let taken = c .before .loop-test .taken in
     let f : ℕ → ℕ = place-at (start .args .nodes .now) in
-    let v : ℕ = loop .v in (
-      omega arith,
-      filled-store 0 v f (start .args .places .now) (loop .places) (c .coordinate .result) (loop .inv .1)
-          (c .coordinate .ensures) (omega (arith, start .pre .1)),
-      length-set (loop .places) v (c .coordinate .result) ∙ loop .inv .2,
-    )
+    copy-next (loop .v) (loop .inv) 0 (omega (arith, upto-length (start .args .count) f))
+    (c .coordinate .ensures ∙ sym (upto-in 0 (start .args .count) f (loop .v) taken))
 
 same-length : tie.Need-same-length Inv-loop μ-loop
 same-length c = search needs
 
 returns : tie.Need-returns Inv-loop μ-loop
 returns c =
-    let f : ℕ → ℕ = place-at (c .before .before .before .before .args .nodes .now) in
-    let e : c .before .loop .v ≡ c .before .before .before .before .args .count = omega arith in
-    c .before .loop .inv .1 ∙ ap (λ (n : ℕ). filled n f (c .before .before .before .before .args .places .now)) e
+    let start = c .before .before .before .before in
+    let loop = c .before .loop in
+    copy-end (loop .v) (loop .inv) (omega (arith, upto-length (start .args .count) (place-at (start .args .nodes .now)))) .stored
 
 pub put-places-spec : {M : Type 1} → statement M
 put-places-spec =
