@@ -80,7 +80,8 @@ module _ {a : List ℕ} {c : Counts} (h : Holds a c) (flows nodes : List ℕ) (f
   -- the potential of a node, as it is stored
   stored : (v : ℕ) → v < c .nodes → at nodes (node-stride * v) ≡ potential-zero + coordinate p v
   stored v l =
-      let column : at (potentials nodes) v ≡ at nodes (node-stride * v) = column-at 0 nodes v (omega arith) ∙ ap (at nodes) (add-zero (node-stride * v)) in
+      let column : at (potentials nodes) v ≡ at nodes (node-stride * v) =
+      column-at 0 nodes v (omega arith) ∙ ap (at nodes) (add-zero (node-stride * v)) in
       let same : pos (coordinate p v) ≡ pos (at (potentials nodes) v) -ℤ pos potential-zero =
       sym (List·getD-map pos p v 0) ∙ ap (λ (l : List ℤ). getD l v (pos 0)) naturals
       ∙ upto-in (pos 0) (c .nodes + 1 - 1) (λ u. pos (at (potentials nodes) u) -ℤ pos potential-zero) v (omega arith) in
