@@ -68,26 +68,26 @@ module _ {n rest size : ℕ} (state : Sizing n rest size) where
         same = omega (arith, f, ap length (encode-more (suc (number-bytes - (size + 1))) rest k));
       }
 
--- some bytes are stored, and the rest of the number, in one byte and more others at most, is left to store at next
+-- some bytes are stored, and the rest of the number, in suc more bytes at most, is left to store at next
 pub record BytesLeft (old : List ℕ) (at n : ℕ) (new : List ℕ) (rest next : ℕ) : Type 0 where
   pub more : ℕ
   pub below : rest < 128 ^ suc more
   pub left : Left old at (encode number-bytes n) new next (encode (suc more) rest)
 
--- all are left at the start
+-- all bytes are left at the start
 pub bytes-begin : (old : List ℕ) (at n : ℕ) → n < number-limit → BytesLeft old at n old n at
 bytes-begin old at n h = record { more = number-bytes - 1; below = h; left = left-begin old at (encode number-bytes n) }
 
 module _ {old : List ℕ} {at n : ℕ} {new : List ℕ} {rest next : ℕ} (state : BytesLeft old at n new rest next) where
-  -- the next one has room
+  -- the next byte has room
   pub bytes-room : Room old at (encode number-bytes n) → next < length new
   bytes-room room = omega (arith, room .fits, state .left .ends, state .left .size, some (state .more) rest)
 
-  -- the last one is stored
+  -- the last byte is stored
   pub bytes-end : rest < 128 → Puts old at (encode number-bytes n) (set new next rest) (next + 1)
   bytes-end h = left-end (left-one (rw (encode-last (state .more) rest h) at (state .left)))
 
-  -- one that goes on is stored
+  -- a byte that is not the last is stored
   pub bytes-next : 128 ≤ rest → BytesLeft old at n (set new next (rest % 128 + 128)) (rest / 128) (next + 1)
   bytes-next h = go (state .more) (state .below) (state .left)
     where

@@ -75,14 +75,11 @@ module _ {A : Type 0} where
   -- a part is stored
   pub left-part : {old whole new new′ part rest : List A} {start at next : ℕ} → Left old start whole new at (part ++ rest)
       → Puts new at part new′ next → Left old start whole new′ next rest
-  left-part {new = new} {new′} {part} {rest} {at = at} left p =
+  left-part {new′ = new′} {rest = rest} {next = next} left p =
+      let both = puts-then {new = sets new′ next rest} {b = rest} p (record { stored = refl; behind = refl }) in
       record {
-        completes =
-            ap (λ (i : ℕ). sets new′ i rest) (p .behind)
-            ∙ ap (λ (l : List A). sets l (at + length part) rest) (p .stored)
-            ∙ sets-append part new at rest
-            ∙ left .completes;
-        ends = omega (arith, p .behind, left .ends, length-append part rest);
+        completes = both .stored ∙ left .completes;
+        ends = both .behind ∙ left .ends;
         size = puts-length p ∙ left .size;
       }
 

@@ -11,7 +11,7 @@ use Rattle.leb128.specs.Limits.{number-bytes, number-limit}
 use Rattle.leb128.specs.Number.{encode}
 use Rattle.leb128.specs.Place.{Placing, placing, placed, written}
 use Rattle.leb128.specs.inside.Storing.{Room, Puts}
-use Rattle.leb128.specs.laws.Storing.{Left, left-begin, left-room, left-part, left-end}
+use Rattle.leb128.specs.laws.Storing.{Left, left-room, left-part, left-end}
 use Rattle.leb128.specs.declared.Placed.{Placed}
 use Rattle.leb128.specs.declared.Placed.the-variants.{Next, NoForm, NoRoom}
 use Rattle.sheet.specs.Limits.{magic}
@@ -58,10 +58,6 @@ no-bytes ns i h = rw (drop-of-length-le ns h)
 -- the bytes of the numbers from i on are left to store behind the opening
 pub record PutLeft (ns old new : List ℕ) (at i : ℕ) : Type 0 where
   pub left : Left old (length magic) (encode-all ns) new at (encode-all (drop i ns))
-
--- all of them at the start
-pub put-begin : (ns old : List ℕ) → PutLeft ns old old (length magic) 0
-put-begin ns old = record { left = left-begin old (length magic) (encode-all ns) }
 
 module _ {ns old new : List ℕ} {at i : ℕ} (p : PutLeft ns old new at i) where
   module _ (h : i < length ns) where

@@ -3,7 +3,8 @@ use Prim.Native.Nat.{_-_}
 use native.Mathlib.Omega.{arith}
 use borrow.Author.Needs.{needs}
 use lib.ListN.{length}
-use Rattle.sheet.proofs.laws.Putting.{PutLeft, put-begin, put-room, put-next, put-end}
+use Rattle.leb128.specs.laws.Storing.{left-begin}
+use Rattle.sheet.proofs.laws.Putting.{PutLeft, put-room, put-next, put-end}
 use Rattle.sheet.proofs.writer.put_numbers.Statement.{statement}
 use Rattle.sheet.proofs.writer.put_numbers.Tie as tie
 
@@ -14,7 +15,7 @@ abbrev μ-loop : tie.MeasureT-loop
 μ-loop numbers bytes₀ at₀ i₀ bytes at i = length numbers - i
 
 loop-holds : tie.Need-loop-holds Inv-loop μ-loop
-loop-holds c = put-begin _ _
+loop-holds c = record { left = left-begin _ _ _ }
 
 mul-put : tie.Need-mul-put Inv-loop μ-loop
 mul-put c = search needs
