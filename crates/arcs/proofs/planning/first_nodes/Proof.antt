@@ -59,10 +59,8 @@ loop-less c = omega arith
 
 loop-again : tie.Need-loop-again Inv-loop μ-loop
 loop-again c =
-    let start = c .before .before .before .before .before .before in
     let loop = c .before .before .before .loop in
     firsts-step (loop .inv) (c .before .before .loop-test .taken) (c .before .number .ensures) (c .layer-size .ensures)
-    (omega (arith, loop .inv .size, loop .inv .turns, start .pre .1))
 
 cast-first-2 : tie.Need-cast-first-2 Inv-loop μ-loop
 cast-first-2 c = omega (arith, c .before .loop .inv .here .few)
@@ -74,13 +72,10 @@ slice-write-first-2 : tie.Need-slice-write-first-2 Inv-loop μ-loop
 slice-write-first-2 c = search needs
 
 same-length : tie.Need-same-length Inv-loop μ-loop
-same-length c = simp length-set (c .before .loop .inv .size)
+same-length c = simp length-set (c .before .loop .inv .left .size)
 
 returns : tie.Need-returns Inv-loop μ-loop
-returns c =
-    let start = c .before .before .before .before in
-    firsts-end (c .before .loop .inv) (omega arith)
-    (omega (arith, c .before .loop .inv .size, c .before .loop .inv .turns, start .pre .1))
+returns c = firsts-end (c .before .loop .inv) (omega arith) (c .before .before .before .before .pre .1 .1)
 
 pub first-nodes-spec : {M : Type 1} → statement M
 first-nodes-spec =
