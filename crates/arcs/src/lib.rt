@@ -24,7 +24,6 @@ ghost use mathlib.Core.Path.{_≡_};
 ghost use lib.ListN.{length};
 ghost use Rattle.leb128.specs.Format.Result.{elements};
 ghost use Rattle.sheet.specs.Limits.{«max-nodes»};
-ghost use Rattle.sheet.specs.Grammar.{sheet};
 ghost use Rattle.sheet.specs.Reading.{«read-sheet»};
 ghost use Rattle.drawing.specs.laws.Good.{Good};
 ghost use Rattle.arcs.specs.Loading.{loading, «load-answer», «load-slice»};

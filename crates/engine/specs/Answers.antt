@@ -7,7 +7,6 @@ use lib.ListN.{length, take}
 use Rattle.leb128.specs.Reply.{Reply}
 use Rattle.leb128.specs.Source.{refusal}
 use Rattle.leb128.specs.Format.Result.{elements}
-use Rattle.sheet.specs.Grammar.{sheet}
 use Rattle.sheet.specs.Reading.{read-sheet}
 use Rattle.drawing.specs.Sheet.{sheet-of}
 use Rattle.drawing.specs.Rows.{Outcome, Row}

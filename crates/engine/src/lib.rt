@@ -14,7 +14,6 @@ use arcs::limits::MAX_ELEMENTS;
 use circulation::layout::NODE_STRIDE;
 use leb128::Refusal;
 use leb128::refusals::SLICE_SHORT;
-ghost use Rattle.sheet.specs.Grammar.{sheet};
 ghost use Rattle.sheet.specs.Reading.{«read-sheet»};
 ghost use Rattle.arcs.specs.laws.HeldArcs.{Holds};
 ghost use Rattle.engine.specs.Draws.{result, Draws};

@@ -5,7 +5,7 @@ use mathlib.Core.Bool.{Bool, true, false, cond, _&&_}
 use mathlib.Core.List.{List, [], _∷_, _++_}
 use lib.ListN.{length, drop, take}
 use lib.Dec.{ltb, eqb}
-use Rattle.leb128.specs.Refusals.{input-ended, other-opening, something-follows, slice-short}
+use Rattle.leb128.specs.Refusals.{input-ended, other-magic, something-follows, slice-short}
 use Rattle.leb128.specs.Limits.{number-bytes}
 use Rattle.leb128.specs.Number.{encode}
 use Rattle.leb128.specs.Grammar.{Form, Grammar}
@@ -37,12 +37,12 @@ same [] (y ∷ ys) = false
 same (x ∷ xs) [] = false
 same (x ∷ xs) (y ∷ ys) = eqb x y && same xs ys
 
--- bytes: refusals 1 and 2 for the opening, then the grammar
+-- bytes: refusals 1 and 2 for the magic, then the grammar
 unfoldable pub walk-bytes : List ℕ → Grammar → List ℕ → Walk
 walk-bytes magic grammar bytes =
     cond (ltb (length bytes) (length magic)) (Walk.refused (refusal input-ended (length bytes)))
     (cond (same (take (length magic) bytes) magic) (walk grammar (in-bytes bytes) (length magic))
-    (Walk.refused (refusal other-opening 0)))
+    (Walk.refused (refusal other-magic 0)))
 
 -- a number list: the grammar
 unfoldable pub walk-list : Grammar → List ℕ → Walk
@@ -72,7 +72,7 @@ made f (Walk.refused r) = Result.refused r
 unfoldable pub reading : List ℕ → Grammar → List ℕ → Result
 reading magic grammar bytes = made (λ ns. ns) (complete (length bytes) (walk-bytes magic grammar bytes))
 
--- writing gives the opening and the numbers' bytes
+-- writing gives the magic and the numbers' bytes
 unfoldable pub writing : List ℕ → Grammar → List ℕ → Result
 writing magic grammar numbers = made (λ ns. magic ++ encoded grammar ns) (complete (length numbers) (walk-list grammar numbers))
 

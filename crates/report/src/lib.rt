@@ -14,7 +14,6 @@ ghost use mathlib.Core.Path.{_≡_};
 ghost use lib.ListN.{length};
 ghost use Rattle.leb128.specs.Format.{outcome, answered, filled};
 ghost use Rattle.leb128.specs.Format.Result.{elements};
-ghost use Rattle.sheet.specs.Grammar.{sheet};
 ghost use Rattle.sheet.specs.Reading.{«read-sheet»};
 ghost use Rattle.sheet.specs.Layout.{LaidOut};
 ghost use Rattle.report.specs.Text.{«drawing-text», «refusal-text»};

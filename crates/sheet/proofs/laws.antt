@@ -3,7 +3,7 @@ pub mod WalkSteps
 pub mod Edges
 pub mod Layers
 pub mod Sheet
-pub mod Openings
+pub mod WalkStarts
 pub mod Settling
 pub mod SecondPass
 pub mod FillingNumbers

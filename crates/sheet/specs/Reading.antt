@@ -1,4 +1,4 @@
--- Reading and writing a sheet: the format of numbers with the sheet's opening and its grammar.
+-- Reading and writing a sheet: the format of numbers with the sheet's magic and its grammar.
 use Prim.Native.Nat.{ℕ}
 use mathlib.Core.List.{List}
 use Rattle.leb128.specs.Format.{Result, reading, writing}

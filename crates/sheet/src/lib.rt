@@ -18,7 +18,6 @@ ghost use mathlib.Core.Path.{_≡_};
 ghost use lib.ListN.{length};
 ghost use Rattle.leb128.specs.Source.{refusal};
 ghost use Rattle.leb128.specs.Format.{outcome, answered, filled};
-ghost use Rattle.sheet.specs.Grammar.{sheet};
 ghost use Rattle.sheet.specs.Reading.{«read-sheet», «write-sheet»};
 ghost use Rattle.sheet.specs.inside.Cursor.{walked, ended, settled};
 

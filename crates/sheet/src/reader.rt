@@ -5,7 +5,6 @@ ghost use mathlib.Core.Path.{_≡_};
 ghost use Prim.Native.Nat.{_≤_};
 ghost use lib.ListN.{length};
 ghost use Rattle.leb128.specs.Format.{filled};
-ghost use Rattle.sheet.specs.Grammar.{sheet};
 ghost use Rattle.sheet.specs.Reading.{«read-sheet»};
 ghost use Rattle.sheet.specs.inside.Passes.{SheetBytes};
 use crate::start::MAGIC;

@@ -1,10 +1,10 @@
-// Where the walk of a sheet starts: behind the opening of its bytes, or at the front of its number list.
+// Where the walk of a sheet starts: behind the magic of its bytes, or at the front of its number list.
 use crate::Cursor;
 use crate::Step;
 use crate::source::refuse;
 use crate::walk::walk;
 use leb128::refusals::INPUT_ENDED;
-use leb128::refusals::OTHER_OPENING;
+use leb128::refusals::OTHER_MAGIC;
 ghost use mathlib.Core.Path.{_≡_};
 ghost use mathlib.Core.Bool.{true, false};
 ghost use Prim.Native.Nat.{_≤_};
@@ -39,7 +39,7 @@ pub fn walk_bytes(bytes: &[u8]) -> Step
         return refuse(INPUT_ENDED, bytes.len());
     }
     if !opens(bytes) {
-        return refuse(OTHER_OPENING, 0);
+        return refuse(OTHER_MAGIC, 0);
     }
     let none = [0u16; 1];
     let start = Cursor {

@@ -26,7 +26,7 @@ fn put(bytes: &mut [u8], at: usize, n: u32) -> usize
     next
 }
 
-// Writes the numbers behind the opening.
+// Writes the numbers behind the magic.
 fn put_numbers(numbers: &[u16], bytes: &mut [u8])
     requires { ⌜ ((i : ℕ) → getD (now numbers) i 0 < number-limit) ⌝ }
     requires { ⌜ Room (now bytes) (length magic) (encode-all (now numbers)) ⌝ }
@@ -40,7 +40,7 @@ fn put_numbers(numbers: &[u16], bytes: &mut [u8])
     }
 }
 
-// Writes the opening.
+// Writes the magic.
 fn put_magic(bytes: &mut [u8])
     requires { ⌜ length magic ≤ length (now bytes) ⌝ }
     ensures { λ r. ⌜ now (bytes .exit) ≡ sets (now (bytes .entry)) 0 magic ⌝ }

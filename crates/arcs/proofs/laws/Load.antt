@@ -14,7 +14,6 @@ use Rattle.leb128.specs.declared.Answer.{Answer}
 use Rattle.leb128.specs.declared.Answer.the-variants.{Done, Refused}
 use Rattle.sheet.specs.Limits.{max-nodes, max-numbers}
 use Rattle.sheet.specs.Layout.{width-at}
-use Rattle.sheet.specs.Grammar.{sheet}
 use Rattle.sheet.specs.Reading.{read-sheet}
 use Rattle.sheet.specs.laws.Sheets.{good-layout}
 use Rattle.sheet.specs.laws.ReadInto.{read-is, read-good, read-refused}

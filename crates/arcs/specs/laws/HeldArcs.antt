@@ -6,7 +6,6 @@ use native.Mathlib.Omega.{arith}
 use lib.Dec.{T}
 use lib.ListN.{length, getD, take, drop, length-append, length-map}
 use lib.Seq.{take-at}
-use Rattle.leb128.specs.Format.{reading}
 use Rattle.leb128.specs.Format.Result.{elements}
 use Rattle.leb128.specs.Grammar.{Accepts}
 use Rattle.sheet.specs.Grammar.{sheet}

@@ -7,9 +7,8 @@ use lib.IntN.{ℤ}
 use lib.ListN.{length}
 use Rattle.leb128.specs.Refusals.{slice-short}
 use Rattle.leb128.specs.Source.{refusal}
-use Rattle.leb128.specs.Format.{Result, reading}
+use Rattle.leb128.specs.Format.{Result}
 use Rattle.leb128.specs.declared.Refusal.{Refusal}
-use Rattle.sheet.specs.Grammar.{sheet}
 use Rattle.sheet.specs.Reading.{read-sheet}
 use Rattle.network.specs.Network.{Network, Feasible, integers}
 use Rattle.network.specs.Net.{at, net, meant}

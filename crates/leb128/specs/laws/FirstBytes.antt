@@ -88,7 +88,7 @@ module _ {P : Form → Rule → Type 0} where
       (λ (h : length bytes ≤ limit). ap (reading magic grammar) (take-all limit bytes h))
       (lt-or-le limit (length bytes))
 
-  -- bytes that are read are no longer than the opening and so many numbers
+  -- bytes that are read are no longer than the magic and so many numbers
   pub most-bytes : (magic : List ℕ) {m : ℕ} {grammar : Grammar} → Each P m grammar → (bytes numbers : List ℕ)
       → reading magic grammar bytes ≡ elements numbers → length bytes ≤ length magic + number-bytes * m
   most-bytes magic {grammar = grammar} most bytes numbers e =

@@ -1,4 +1,4 @@
--- What a good reading or writing tells: the opening, the walk and the end; and what the answer and the slice are.
+-- What a good reading or writing tells: the magic, the walk and the end; and what the answer and the slice are.
 use Prim.Native.Nat.{ℕ, suc, _+_, _≤_, _<_}
 use mathlib.Core.Path.{_≡_, refl, sym, _∙_, ap}
 use mathlib.Core.Bool.{true, false}
@@ -131,7 +131,7 @@ chain-list numbers (more {at = at} {after = after} {n = n} {ns = ns} ok i chain)
     item-not : {n after : ℕ} {r : Refusal} → Item.refused r ≡ value n after → ⊥
     item-not e = let z : _≡_ {A = ℕ} 0 1 = cc in omega arith
 
--- a list that is written is what the grammar accepts, and is written as its opening and its bytes
+-- a list that is written is what the grammar accepts, and is written as its magic and its bytes
 pub good-writing : (magic : List ℕ) (grammar : Grammar) (numbers bytes : List ℕ)
     → writing magic grammar numbers ≡ elements bytes
     → Accepts grammar numbers × (bytes ≡ magic ++ encoded grammar numbers)

@@ -9,7 +9,7 @@ use native.Mathlib.Omega.{arith}
 use lib.Dec.{ltb}
 use lib.ListN.{length, take, drop, length-drop}
 use borrow.Author.Tests.{lt-ltb, le-ltb, eq-eqb, ne-eqb, ltb-true}
-use Rattle.leb128.specs.Refusals.{input-ended, other-opening, number-form}
+use Rattle.leb128.specs.Refusals.{input-ended, other-magic, number-form}
 use Rattle.leb128.specs.Limits.{number-bytes}
 use Rattle.leb128.specs.Grammar.{Form, Grammar, Rule}
 use Rattle.leb128.specs.Grammar.Form.{above}
@@ -111,15 +111,15 @@ unfolding made
 made-within limit f (whole last ns) r h e = let z : _≡_ {A = ℕ} 0 1 = cc in absurd (omega arith)
 made-within limit f (refused s) r h e = let is-r : s ≡ r = cc in rw is-r at h
 
--- an opening that is cut off or another one
+-- a magic that is cut off or another one
 opened-within : (limit : ℕ) (magic bytes : List ℕ) (short same : Bool) (w : Walk) → ltb (length bytes) (length magic) ≡ short → length magic ≤ limit → EndsWithin limit w
-    → EndsWithin limit (cond short (refused (refusal input-ended (length bytes))) (cond same w (refused (refusal other-opening 0))))
+    → EndsWithin limit (cond short (refused (refusal input-ended (length bytes))) (cond same w (refused (refusal other-magic 0))))
 opened-within limit magic bytes true same w e k h = omega (arith, ltb-true (length bytes) (length magic) e)
 opened-within limit magic bytes false true w e k h = h
 opened-within limit magic bytes false false w e k h = omega arith
 
 module _ {P : Form → Rule → Type 0} {m : ℕ} {grammar : Grammar} (most : Each P m grammar) where
-  -- the reader refuses no further behind the opening than so many numbers reach
+  -- the reader refuses no further behind the magic than so many numbers reach
   pub reader-offsets : (magic bytes : List ℕ) (r : Refusal) → reading magic grammar bytes ≡ Result.refused r
       → r .offset ≤ length magic + number-bytes * m
   unfolding reading walk-bytes

@@ -1,5 +1,5 @@
 -- The refusals that reading and writing a format give: those of the source and of the rules, what follows, and for bytes the
--- opening, for an answer the slice.
+-- magic, for an answer the slice.
 use Prim.Native.Nat.{ℕ, _<_, _≤_}
 use mathlib.Core.Path.{_≡_, refl, sym, _∙_, ap}
 use mathlib.Core.Bool.{Bool, true, false, cond}
@@ -9,7 +9,7 @@ use native.Mathlib.Omega.{arith}
 use lib.Dec.{ltb}
 use lib.ListN.{length, take, drop}
 use borrow.Author.Tests.{lt-ltb, le-ltb}
-use Rattle.leb128.specs.Refusals.{input-ended, other-opening, number-form, something-follows, slice-short}
+use Rattle.leb128.specs.Refusals.{input-ended, other-magic, number-form, something-follows, slice-short}
 use Rattle.leb128.specs.Grammar.{Form, Grammar, Rule}
 use Rattle.leb128.specs.Number.{Decoded, decode}
 use Rattle.leb128.specs.Limits.{number-bytes}
@@ -127,13 +127,13 @@ module _ (P : ℕ → Type 0) where
           (lt-or-le last stop)
       complete-refused stop (refused t) r h e = h e
 
-      module _ (other : P other-opening) (form-broken : P number-form) where
+      module _ (other : P other-magic) (form-broken : P number-form) where
         -- bytes that are too short or open otherwise are refused
         opened-refused : (short same : Bool) (n : ℕ) (w : Walk) (r : Refusal) → (w ≡ refused r → P (r .number))
-            → cond short (refused (refusal input-ended n)) (cond same w (refused (refusal other-opening 0))) ≡ refused r → P (r .number)
+            → cond short (refused (refusal input-ended n)) (cond same w (refused (refusal other-magic 0))) ≡ refused r → P (r .number)
         opened-refused true same n w r h e = let is-r : r ≡ refusal input-ended n = cc in rw is-r ended
         opened-refused false true n w r h e = h e
-        opened-refused false false n w r h e = let is-r : r ≡ refusal other-opening 0 = cc in rw is-r other
+        opened-refused false false n w r h e = let is-r : r ≡ refusal other-magic 0 = cc in rw is-r other
 
         -- what is made of a walk is refused where it is
         made-refused : (f : List ℕ → List ℕ) (w : Walk) (r : Refusal) → (w ≡ refused r → P (r .number))

@@ -17,7 +17,6 @@ use Rattle.leb128.specs.Format.Result.{elements}
 use Rattle.leb128.specs.declared.Refusal.{Refusal}
 use Rattle.sheet.specs.Limits.{max-width, max-layers, max-layer-nodes, max-nodes, max-edges}
 use Rattle.sheet.specs.Layout.{layers-at, first-layer-at, nodes-at, separations-at, next-layer, nodes-of, node-count, Limited, LaidOut}
-use Rattle.sheet.specs.Grammar.{sheet}
 use Rattle.sheet.specs.Reading.{read-sheet}
 use Rattle.sheet.specs.laws.Sheets.{read-accepted, good-layout}
 use Rattle.drawing.specs.Sheet.{pairs-of, layers-of, sheet-of}

@@ -2,7 +2,7 @@
 use Prim.Native.Nat.{ℕ}
 use mathlib.Core.Path.{_≡_, refl}
 use mathlib.Core.List.{List, [], _∷_, _++_}
-use Rattle.leb128.specs.Refusals.{input-ended, other-opening, number-form, outside-limits, something-follows}
+use Rattle.leb128.specs.Refusals.{input-ended, other-magic, number-form, outside-limits, something-follows}
 use Rattle.leb128.specs.Number.{decode, grouped}
 use Rattle.leb128.specs.Grammar.{within, both}
 use Rattle.leb128.specs.Source.{refusal, decoded-item, byte-item, raised, in-bytes}
@@ -14,7 +14,7 @@ use Rattle.sheet.specs.Limits.{magic}
 use Rattle.sheet.specs.Grammar.{crossed, separation, separations, layers, edge, edges, sheet}
 use Rattle.sheet.specs.Reading.{read-sheet}
 
--- what is read from these bytes behind the opening
+-- what is read from these bytes behind the magic
 read-behind : List ℕ → Result
 unfolding decode grouped within both crossed separation separations layers edge edges sheet decoded-item byte-item raised in-bytes checked led followed walk same complete walk-bytes made reading read-sheet
 read-behind bytes = read-sheet (magic ++ bytes)
@@ -24,10 +24,10 @@ ended : read-sheet (0x53 ∷ 0x50 ∷ []) ≡ refused (refusal input-ended 2)
 unfolding same walk-bytes complete made reading read-sheet
 ended = refl
 
--- another opening
-other-magic : read-sheet (0x53 ∷ 0x51 ∷ 0x31 ∷ []) ≡ refused (refusal other-opening 0)
+-- another magic
+other-start : read-sheet (0x53 ∷ 0x51 ∷ 0x31 ∷ []) ≡ refused (refusal other-magic 0)
 unfolding same walk-bytes complete made reading read-sheet
-other-magic = refl
+other-start = refl
 
 -- 80 00 is not the fewest bytes
 not-fewest : read-behind (0x80 ∷ 0x00 ∷ []) ≡ refused (refusal number-form 3)
@@ -54,7 +54,7 @@ extra : read-behind (0x00 ∷ 0x01 ∷ 0x01 ∷ 0x00 ∷ 0x00 ∷ []) ≡ refuse
 unfolding read-behind
 extra = refl
 
--- the bytes behind the opening of the first sheet of "`place`"
+-- the bytes behind the magic of the first sheet of "`place`"
 first : List ℕ
 first = 0x05 ∷ 0x02 ∷ 0x02 ∷ 0x01 ∷ 0x00 ∷ 0x01 ∷ 0x02 ∷ 0x01 ∷ 0x01 ∷ 0x01 ∷ 0x00 ∷ 0x01 ∷ 0x02 ∷ 0x01 ∷ 0x00 ∷ []
 

@@ -1,4 +1,4 @@
--- The writer's second pass: the opening is stored, and behind it the numbers' bytes, one number after the other.
+-- The writer's second pass: the magic is stored, and behind it the numbers' bytes, one number after the other.
 use Prim.Native.Nat.{ℕ, _+_, _≤_, _<_}
 use mathlib.Core.Path.{_≡_, sym, _∙_, ap}
 use mathlib.Core.List.{List, [], _++_}
@@ -55,7 +55,7 @@ no-bytes : (ns : List ℕ) (i : ℕ) → length ns ≤ i → encode-all (drop i 
 unfolding encode-all
 no-bytes ns i h = rw (drop-of-length-le ns h)
 
--- the bytes of the numbers from i on are left to store behind the opening
+-- the bytes of the numbers from i on are left to store behind the magic
 pub record PutLeft (ns old new : List ℕ) (at i : ℕ) : Type 0 where
   pub left : Left old (length magic) (encode-all ns) new at (encode-all (drop i ns))
 

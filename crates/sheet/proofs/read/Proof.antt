@@ -2,7 +2,6 @@
 use mathlib.Core.Path.{sym, _∙_, ap}
 use Rattle.sheet.proofs.laws.SecondPass.{refused-kept, read-done}
 use Rattle.sheet.proofs.laws.Settling.{read-settled}
-use Rattle.sheet.specs.Grammar.{sheet}
 use Rattle.sheet.specs.Reading.{read-sheet}
 use Rattle.leb128.specs.Format.{outcome}
 use denote.Ref.{now}

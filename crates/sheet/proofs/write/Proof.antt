@@ -1,7 +1,6 @@
 -- `sheet::write` meets its contract: what the walk settles to is the answer, and the second pass fills the slice.
 use Rattle.sheet.proofs.laws.SecondPass.{refused-kept, write-done, write-filled}
 use Rattle.sheet.proofs.laws.Settling.{write-settled}
-use Rattle.sheet.specs.Grammar.{sheet}
 use Rattle.sheet.specs.Reading.{write-sheet}
 use denote.Ref.{now}
 use borrow.Author.Needs.{needs}

@@ -7,7 +7,7 @@ use native.Mathlib.Omega.{arith}
 use lib.ListN.{length, take, drop, length-append}
 use lib.Seq.{take-at}
 use borrow.Author.Tests.{le-ltb}
-use Rattle.leb128.specs.Format.{Result, Outcome, outcome, reading, answered, filled}
+use Rattle.leb128.specs.Format.{Result, Outcome, outcome, answered, filled}
 use Rattle.leb128.specs.Format.Result.{elements}
 use Rattle.leb128.specs.Grammar.{Accepts}
 use Rattle.leb128.specs.laws.GoodFormat.{answered-wrote, filled-elements}

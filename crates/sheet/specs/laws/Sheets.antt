@@ -9,7 +9,7 @@ use lib.ListN.{length, take}
 use Rattle.leb128.specs.Grammar.{Form, Rule, Accepts}
 use Rattle.leb128.specs.Source.{Source}
 use Rattle.leb128.specs.Walk.{asked}
-use Rattle.leb128.specs.Format.{Result, Outcome, encoded, reading, answered}
+use Rattle.leb128.specs.Format.{Result, Outcome, encoded, answered}
 use Rattle.leb128.specs.Format.Result.{elements}
 use Rattle.leb128.specs.Number.{AreBytes}
 use Rattle.leb128.specs.laws.EachNumber.{each-map, most-asked as format-most-asked}

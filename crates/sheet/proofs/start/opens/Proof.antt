@@ -1,9 +1,9 @@
--- `sheet::start::opens` meets its contract: the opening is compared byte by byte.
+-- `sheet::start::opens` meets its contract: the magic is compared byte by byte.
 use lib.ListN.{getD}
 use Rattle.sheet.specs.Limits.{magic}
 use denote.Ref.{now}
 use borrow.Author.Tests.{eq-eqb, ne-eqb}
-use Rattle.sheet.proofs.laws.Openings.{opening}
+use Rattle.sheet.proofs.laws.WalkStarts.{magic-bytes}
 use borrow.Author.Needs.{needs}
 use Rattle.sheet.proofs.start.opens.Statement.{statement}
 use Rattle.sheet.proofs.start.opens.Tie as tie
@@ -17,7 +17,7 @@ array-read-if1 c = search needs
 returns : tie.Need-returns
 returns c =
     rw (
-      opening (now (c .before .before .args .bytes)) (c .before .before .pre),
+      magic-bytes (now (c .before .before .args .bytes)) (c .before .before .pre),
       ne-eqb (getD (now (c .before .before .args .bytes)) 0 0) (getD magic 0 0) (c .if1 .taken),
     )
 
@@ -31,7 +31,7 @@ returns-2 : tie.Need-returns-2
 returns-2 c =
     let start = c .before .before .before .before in
     rw (
-      opening (now (start .args .bytes)) (start .pre),
+      magic-bytes (now (start .args .bytes)) (start .pre),
       eq-eqb (getD (now (start .args .bytes)) 0 0) (getD magic 0 0) (c .before .before .if1 .left),
       ne-eqb (getD (now (start .args .bytes)) 1 0) (getD magic 1 0) (c .if2 .taken),
     )
@@ -46,7 +46,7 @@ returns-3 : tie.Need-returns-3
 returns-3 c =
     let start = c .before .before .before .before .before in
     rw (
-      opening (now (start .args .bytes)) (start .pre),
+      magic-bytes (now (start .args .bytes)) (start .pre),
       eq-eqb (getD (now (start .args .bytes)) 0 0) (getD magic 0 0) (c .before .before .before .if1 .left),
       eq-eqb (getD (now (start .args .bytes)) 1 0) (getD magic 1 0) (c .before .if2 .left),
     )

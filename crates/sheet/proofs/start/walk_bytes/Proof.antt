@@ -1,10 +1,10 @@
--- `sheet::start::walk_bytes` meets its contract: the opening, and the walk behind it.
+-- `sheet::start::walk_bytes` meets its contract: the magic, and the walk behind it.
 use mathlib.Core.Path.{_∙_, sym, ap}
 use Rattle.sheet.specs.inside.Cursor.{walked}
 use native.Mathlib.Omega.{arith}
 use denote.Ref.{now}
 use borrow.Author.Tests.{not-true, not-false}
-use Rattle.sheet.proofs.laws.Openings.{too-short, opens-not, bytes-walked}
+use Rattle.sheet.proofs.laws.WalkStarts.{too-short, opens-not, bytes-walked}
 use borrow.Author.Needs.{needs}
 use Rattle.sheet.proofs.start.walk_bytes.Statement.{statement}
 use Rattle.sheet.proofs.start.walk_bytes.Tie as tie

@@ -1,6 +1,6 @@
 -- `sheet::start::walk_list` meets its contract: the walk from the front.
 use denote.Ref.{now}
-use Rattle.sheet.proofs.laws.Openings.{list-walked}
+use Rattle.sheet.proofs.laws.WalkStarts.{list-walked}
 use borrow.Author.Needs.{needs}
 use Rattle.sheet.proofs.start.walk_list.Statement.{statement}
 use Rattle.sheet.proofs.start.walk_list.Tie as tie

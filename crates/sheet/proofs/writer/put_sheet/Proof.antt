@@ -1,4 +1,4 @@
--- `sheet::writer::put_sheet` meets its contract: the opening and then the numbers.
+-- `sheet::writer::put_sheet` meets its contract: the magic and then the numbers.
 use native.Mathlib.Omega.{arith}
 use denote.Ref.{now}
 use Prim.Native.Nat.{ℕ}

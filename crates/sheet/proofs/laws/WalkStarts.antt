@@ -1,4 +1,4 @@
--- Where a walk starts, case by case: the opening of the bytes, and the front of a list.
+-- Where a walk starts, case by case: the magic of the bytes, and the front of a list.
 use Prim.Native.Nat.{ℕ, _≤_, _<_}
 use mathlib.Core.Path.{_≡_}
 use mathlib.Core.Bool.{true, false, _&&_, and-true}
@@ -7,37 +7,37 @@ use native.Mathlib.Omega.{arith}
 use lib.ListN.{length, getD, take}
 use lib.Dec.{eqb}
 use borrow.Author.Tests.{lt-ltb, le-ltb}
-use Rattle.leb128.specs.Refusals.{input-ended, other-opening}
+use Rattle.leb128.specs.Refusals.{input-ended, other-magic}
 use Rattle.leb128.specs.Source.{refusal}
 use Rattle.leb128.specs.Format.{same, walk-bytes, walk-list}
 use Rattle.sheet.specs.Limits.{magic}
 use Rattle.sheet.specs.Grammar.{sheet}
 use Rattle.sheet.specs.inside.Cursor.{Measure, measured, walk-from}
 
--- the opening, byte by byte
-pub opening : (bytes : List ℕ) → length magic ≤ length bytes
+-- the magic, byte by byte
+pub magic-bytes : (bytes : List ℕ) → length magic ≤ length bytes
     → same (take (length magic) bytes) magic ≡ (eqb (getD bytes 0 0) (getD magic 0 0) && (eqb (getD bytes 1 0) (getD magic 1 0) && eqb (getD bytes 2 0) (getD magic 2 0)))
 unfolding same
-opening [] h = absurd (omega arith)
-opening (a ∷ []) h = absurd (omega arith)
-opening (a ∷ b ∷ []) h = absurd (omega arith)
-opening (a ∷ b ∷ c ∷ rest) h = rw and-true
+magic-bytes [] h = absurd (omega arith)
+magic-bytes (a ∷ []) h = absurd (omega arith)
+magic-bytes (a ∷ b ∷ []) h = absurd (omega arith)
+magic-bytes (a ∷ b ∷ c ∷ rest) h = rw and-true
 
 module _ (bytes : List ℕ) where
-  -- the opening is not whole
+  -- the magic is not whole
   pub too-short : length bytes < length magic
       → Measure.refused (refusal input-ended (length bytes)) ≡ measured true 0 (walk-bytes magic sheet bytes)
   unfolding walk-bytes measured
   too-short h = rw (lt-ltb (length bytes) (length magic) h)
 
   module _ (long : length magic ≤ length bytes) where
-    -- another opening
+    -- another magic
     pub opens-not : same (take (length magic) bytes) magic ≡ false
-        → Measure.refused (refusal other-opening 0) ≡ measured true 0 (walk-bytes magic sheet bytes)
+        → Measure.refused (refusal other-magic 0) ≡ measured true 0 (walk-bytes magic sheet bytes)
     unfolding walk-bytes measured
     opens-not e = rw (le-ltb (length bytes) (length magic) long, e)
 
-    -- the walk along bytes starts behind the opening
+    -- the walk along bytes starts behind the magic
     pub bytes-walked : (numbers : List ℕ) (answer : Measure) → same (take (length magic) bytes) magic ≡ true
         → answer ≡ walk-from bytes numbers (record { encoded = true; at = length magic; count = 0 }) sheet
         → answer ≡ measured true 0 (walk-bytes magic sheet bytes)
