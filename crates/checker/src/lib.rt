@@ -52,7 +52,8 @@ fn short() -> Verdict
 // The answer on the packed arcs of a sheet.
 fn check_loaded(arcs: &[u32], places: &[u16], list: &[i32], counts: Counts) -> Verdict
     requires { ⌜ Holds (now arcs) counts ⌝ }
-    ensures { λ r. ⌜ judgement r ≡ decided (counts .nodes) (counts .arcs) (table-decision (now (arcs .entry)) counts) (now (places .entry)) (now (list .entry)) ⌝ }
+    ensures { λ r. ⌜ judgement r ≡ decided (counts .nodes) (counts .arcs) (table-decision (now (arcs .entry)) counts)
+        (now (places .entry)) (now (list .entry)) ⌝ }
 {
     if places.len() < counts.nodes {
         return short();

@@ -28,7 +28,8 @@ pub enum Answer {
 // The leftmost least drawing of a sheet, in front of the places, and a list that shows its total to be least, in front of the
 // list; or the refusal.
 pub fn draw(bytes: &[u8], places: &mut [u16], list: &mut [i32]) -> Answer
-    ensures { λ r. ⌜ Draws (read-sheet (now (bytes .entry))) (now (places .entry)) (now (list .entry)) (now (places .exit)) (now (list .exit)) (result r) ⌝ }
+    ensures { λ r. ⌜ Draws (read-sheet (now (bytes .entry))) (now (places .entry)) (now (list .entry))
+        (now (places .exit)) (now (list .exit)) (result r) ⌝ }
 {
     let mut arcs = [0u32; MAX_ELEMENTS];
     match arcs::load(bytes, &mut arcs) {
@@ -40,7 +41,8 @@ pub fn draw(bytes: &[u8], places: &mut [u16], list: &mut [i32]) -> Answer
 // The same of a sheet's packed arcs, whatever the width that they were loaded with.
 fn draw_loaded(arcs: &[u32], counts: Counts, places: &mut [u16], list: &mut [i32]) -> Answer
     requires { ⌜ Holds (now arcs) counts ⌝ }
-    ensures { λ r. ⌜ DrawsHeld (now (arcs .entry)) counts (now (places .entry)) (now (list .entry)) (now (places .exit)) (now (list .exit)) (result r) ⌝ }
+    ensures { λ r. ⌜ DrawsHeld (now (arcs .entry)) counts (now (places .entry)) (now (list .entry))
+        (now (places .exit)) (now (list .exit)) (result r) ⌝ }
 {
     if places.len() < counts.nodes {
         return refused(SLICE_SHORT);

@@ -21,8 +21,10 @@ ghost use Rattle.report.specs.Text.{«drawing-text», «refusal-text»};
 // Writes the text of a sheet's drawing into the front of the lent slice: the total, and each node's layer, position and
 // place.
 pub fn drawing_text(bytes: &[u8], places: &[u16], total: u32, text: &mut [u8]) -> Answer
-    ensures answer { λ r. ⌜ outcome r ≡ answered (length (now (text .entry))) (drawing-text (read-sheet (now (bytes .entry))) (now (places .entry)) total) ⌝ }
-    ensures slice { λ r. ⌜ now (text .exit) ≡ filled (drawing-text (read-sheet (now (bytes .entry))) (now (places .entry)) total) (now (text .entry)) ⌝ }
+    ensures answer { λ r. ⌜ outcome r ≡ answered (length (now (text .entry)))
+        (drawing-text (read-sheet (now (bytes .entry))) (now (places .entry)) total) ⌝ }
+    ensures slice { λ r. ⌜ now (text .exit) ≡ filled (drawing-text (read-sheet (now (bytes .entry))) (now (places .entry)) total)
+        (now (text .entry)) ⌝ }
 {
     let mut numbers = [0u16; MAX_NUMBERS];
     let answer = sheet::read(bytes, &mut numbers);
@@ -44,8 +46,10 @@ pub fn refusal_text(refusal: Refusal, text: &mut [u8]) -> Answer
 // Writes the text of a drawing, of a good sheet's numbers, into the front of the lent slice.
 fn sheet_text(numbers: &[u16], places: &[u16], total: u32, text: &mut [u8]) -> Answer
     requires { ⌜ LaidOut (now numbers) ⌝ }
-    ensures answer { λ r. ⌜ outcome r ≡ answered (length (now (text .entry))) (drawing-text (elements (now (numbers .entry))) (now (places .entry)) total) ⌝ }
-    ensures slice { λ r. ⌜ now (text .exit) ≡ filled (drawing-text (elements (now (numbers .entry))) (now (places .entry)) total) (now (text .entry)) ⌝ }
+    ensures answer { λ r. ⌜ outcome r ≡ answered (length (now (text .entry)))
+        (drawing-text (elements (now (numbers .entry))) (now (places .entry)) total) ⌝ }
+    ensures slice { λ r. ⌜ now (text .exit) ≡ filled (drawing-text (elements (now (numbers .entry))) (now (places .entry)) total)
+        (now (text .entry)) ⌝ }
 {
     let mut room = [0u8; MAX_TEXT];
     drawing_within(numbers, places, total, &mut room, text)

@@ -33,7 +33,8 @@ pub extern "C" fn strip_write(numbers: &[u16], bytes: &mut [u8]) -> u64
 // Draws a sheet into the fronts of the places and the list.
 #[no_mangle]
 pub extern "C" fn strip_draw(bytes: &[u8], places: &mut [u16], list: &mut [i32]) -> u64
-    ensures { λ r. ⌜ DrawsWord (read-sheet (now (bytes .entry))) (now (places .entry)) (now (list .entry)) (now (places .exit)) (now (list .exit)) r ⌝ }
+    ensures { λ r. ⌜ DrawsWord (read-sheet (now (bytes .entry))) (now (places .entry)) (now (list .entry))
+        (now (places .exit)) (now (list .exit)) r ⌝ }
 {
     drawing_word(engine::draw(bytes, places, list))
 }

@@ -58,7 +58,9 @@ module _ {s first : List ℕ} {p : Plan} (g : Good max-nodes s) (planned : Plann
     counts = cc (plan-nodes g planned, plan-edges g planned, plan-arcs g planned (sheet-of s .width), width-is)
 
     -- long enough: the answer
-    pub long-enough-answer : loading (loaded.Sheet (record { nodes = p .nodes; edges = p .edges; arcs = p .edges + 2 * p .nodes; width = width })) ≡ load-answer (length a) (elements s)
+    pub long-enough-answer : loading (loaded.Sheet
+        (record { nodes = p .nodes; edges = p .edges; arcs = p .edges + 2 * p .nodes; width = width }))
+        ≡ load-answer (length a) (elements s)
     unfolding loading
     long-enough-answer = sym (long-answer s (length a) (omega (arith, size-is)) ∙ ap Reply.value counts)
 
@@ -69,7 +71,8 @@ module _ {s first : List ℕ} {p : Plan} (g : Good max-nodes s) (planned : Plann
         f ∙ ap (λ (w : ℕ). written (network (at-width w (sheet-of s))) a) (sym width-is) ∙ sym (long-slice s a (omega (arith, size-is)))
 
 -- what the reader answered and left
-module _ {answer : Answer} (bytes old new : List ℕ) (e : outcome answer ≡ answered (length old) (read-sheet bytes)) (f : new ≡ filled (read-sheet bytes) old) where
+module _ {answer : Answer} (bytes old new : List ℕ) (e : outcome answer ≡ answered (length old) (read-sheet bytes))
+    (f : new ≡ filled (read-sheet bytes) old) where
   module _ {count : ℕ} (is : answer ≡ Done count) where
     -- the numbers that were read are good
     pub done-good : Good max-nodes (take (count - 0) new)

@@ -115,5 +115,7 @@ module _ {a : List ℕ} {c : Counts} (h : Holds a c) where
   edges-front =
       let es : List Arc = map edge-arc (S .edges) in
       let ls : List Arc = flatMap (layer-arcs (S .width) (S .nodes)) (S .layers) in
-      ap (take (stride * c .edges)) (front ∙ ap (λ (l : List ℕ). l ++ h .behind) (packs-append es ls) ∙ append-assoc (packs es) (packs ls) (h .behind))
-      ∙ take-at (packs es) (packs ls ++ h .behind) (stride * c .edges) (omega (arith, packs-length es, length-map (S .edges) edge-arc, h .edges-are))
+      ap (take (stride * c .edges)) (front ∙ ap (λ (l : List ℕ). l ++ h .behind) (packs-append es ls)
+      ∙ append-assoc (packs es) (packs ls) (h .behind))
+      ∙ take-at (packs es) (packs ls ++ h .behind) (stride * c .edges)
+      (omega (arith, packs-length es, length-map (S .edges) edge-arc, h .edges-are))

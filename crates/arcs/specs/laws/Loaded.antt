@@ -54,7 +54,8 @@ unfolding loading
 refused-answer is e = sym (ap loading is) ∙ e
 
 -- an answer with a sheet
-pub loaded-sheet : (bytes old : List ℕ) {new : List ℕ} {answer : Loaded} {c : Counts} → answer ≡ Sheet c → loading answer ≡ load-answer (length old) (read-sheet bytes)
+pub loaded-sheet : (bytes old : List ℕ) {new : List ℕ} {answer : Loaded} {c : Counts} → answer ≡ Sheet c
+    → loading answer ≡ load-answer (length old) (read-sheet bytes)
     → new ≡ load-slice (read-sheet bytes) old → LoadedSheet bytes old new c
 unfolding load-answer
 loaded-sheet bytes old {new} {answer} {c} is e f = go (read-sheet bytes) refl (sheet-answer is e) f
@@ -89,7 +90,8 @@ most-elements numbers a =
     omega (arith, proper .nodes, proper .few, arcs-count max-nodes numbers (accepts-good max-nodes (good-layout numbers a .nodes) a))
 
 -- where the slice is long enough for every sheet, a refusal is the reader's
-pub reader-refused : (bytes : List ℕ) (room : ℕ) {answer : Loaded} {r : Refusal} → max-elements ≤ room → answer ≡ Refused r → loading answer ≡ load-answer room (read-sheet bytes)
+pub reader-refused : (bytes : List ℕ) (room : ℕ) {answer : Loaded} {r : Refusal} → max-elements ≤ room → answer ≡ Refused r
+    → loading answer ≡ load-answer room (read-sheet bytes)
     → read-sheet bytes ≡ Result.refused r
 unfolding load-answer
 reader-refused bytes room {answer} {r} h is e = go (read-sheet bytes) refl (refused-answer is e)

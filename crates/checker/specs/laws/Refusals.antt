@@ -29,7 +29,8 @@ slice-given = record { number-in = (omega arith, omega arith); offset-in = omega
 
 -- two tests of length, then a decision
 tests-refused : (few short decision : Bool) (r : Refusal)
-    → cond few (Reply.refused (refusal slice-short 0)) (cond short (Reply.refused (refusal slice-short 0)) (Reply.value decision)) ≡ Reply.refused r
+    → cond few (Reply.refused (refusal slice-short 0)) (cond short (Reply.refused (refusal slice-short 0)) (Reply.value decision))
+    ≡ Reply.refused r
     → SheetRefusal r
 tests-refused true short decision r e = let is-r : r ≡ refusal slice-short 0 = cc in rw is-r slice-given
 tests-refused false true decision r e = let is-r : r ≡ refusal slice-short 0 = cc in rw is-r slice-given
@@ -45,4 +46,5 @@ check-refusals bytes places list r e = go (read-sheet bytes) refl e
     go (elements numbers) i e =
         tests-refused (ltb (length places) (sheet-of numbers .nodes)) (ltb (length list) (certificate-size (sheet-of numbers)))
         (judged (sheet-of numbers) (take (sheet-of numbers .nodes) places) (take (certificate-size (sheet-of numbers)) list)) r e
-    go (Result.refused s) i e = let is-r : s ≡ r = cc in rw (sym is-r) (record { number-in = reader-refusals bytes s i; offset-in = reader-offsets bytes s i })
+    go (Result.refused s) i e =
+        let is-r : s ≡ r = cc in rw (sym is-r) (record { number-in = reader-refusals bytes s i; offset-in = reader-offsets bytes s i })

@@ -74,19 +74,23 @@ charged e h t a h-in t-in enough v = go (ℕ-discrete v t) (ℕ-discrete v h)
         )
 
 -- the two stores of a charge
-module _ (nodes one new : List ℕ) (t h a more less : ℕ) (t-in : t < length nodes / node-stride) (h-in : h < length nodes / node-stride) (enough : a ≤ at (needs nodes) h)
+module _ (nodes one new : List ℕ) (t h a more less : ℕ) (t-in : t < length nodes / node-stride) (h-in : h < length nodes / node-stride)
+    (enough : a ≤ at (needs nodes) h)
     (more-is : more ≡ at (needs nodes) t + a) (first : Stored 1 t more nodes one) where
   -- after the first store the second has enough
   pub charge-enough : (a ≤ at (needs one) h) × ((top : ℕ) → more < top → at (needs nodes) h < top → at (needs one) h < top)
   charge-enough = (
     rw (first .same, more-is) (stays-high (needs nodes) t h a (omega (arith, column-length 1 nodes)) enough),
-    λ top m e. ⊎-elim (λ c. omega (arith, c .1, ap (λ (l : List ℕ). at l h) (first .same))) (λ c. omega (arith, c .1, ap (λ (l : List ℕ). at l h) (first .same))) (at-set (needs nodes) t more h (omega (arith, column-length 1 nodes))),
+    λ top m e. ⊎-elim (λ c. omega (arith, c .1, ap (λ (l : List ℕ). at l h) (first .same)))
+        (λ c. omega (arith, c .1, ap (λ (l : List ℕ). at l h) (first .same)))
+        (at-set (needs nodes) t more h (omega (arith, column-length 1 nodes))),
   )
 
   -- both stores
   pub charge-both : less ≡ at (needs one) h - a → Stored 1 h less one new
       → ((v : ℕ) → at (needs new) v + pick h v a ≡ at (needs nodes) v + pick t v a) × Apart 1 nodes new
   charge-both less-is second = (
-    λ v. rw (second .same, less-is, first .same, more-is) (charged (needs nodes) t h a (omega (arith, column-length 1 nodes)) (omega (arith, column-length 1 nodes)) enough v),
+    λ v. rw (second .same, less-is, first .same, more-is)
+        (charged (needs nodes) t h a (omega (arith, column-length 1 nodes)) (omega (arith, column-length 1 nodes)) enough v),
     apart-next (apart-next (apart-start 1 nodes) first) second,
   )

@@ -31,7 +31,8 @@ pub flow-near : (m : ℕ) (ends x y : ℕ → ℕ) (v : ℕ) → ((i : ℕ) → 
     → flow m ends x v ≤ flow m ends y v + flow m ends (λ i. 1024) v
 flow-near m ends x y v near = omega (
   arith,
-  sum-to-le m (λ i. pick (ends i) v (x i)) (λ i. pick (ends i) v (y i) + pick (ends i) v 1024) (λ i l. pick-near (ends i) v (x i) (y i) (near i l)),
+  sum-to-le m (λ i. pick (ends i) v (x i)) (λ i. pick (ends i) v (y i) + pick (ends i) v 1024)
+      (λ i l. pick-near (ends i) v (x i) (y i) (near i l)),
   sum-to-add m (λ i. pick (ends i) v (y i)) (λ i. pick (ends i) v 1024),
 )
   where
@@ -64,7 +65,8 @@ module _ {N : Net} {n : ℕ} {x : List ℕ} where
     );
   }
 
-  module _ {e : List ℕ} {i : ℕ} (c : Counting N n x e i) (l : i < arcs N) (few : arcs N ≤ most-arcs) (small : (k : ℕ) → k < arcs N → (low-least ≤ at x k) × (at x k ≤ high-most)) where
+  module _ {e : List ℕ} {i : ℕ} (c : Counting N n x e i) (l : i < arcs N) (few : arcs N ≤ most-arcs)
+      (small : (k : ℕ) → k < arcs N → (low-least ≤ at x k) × (at x k ≤ high-most)) where
     -- a need in between is near 2^30
     pub count-range : (v : ℕ) → v < n → (1056964608 ≤ at e v) × (at e v ≤ 1090519040)
     count-range v v-in =

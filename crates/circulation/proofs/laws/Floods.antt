@@ -62,8 +62,9 @@ module _ {N : Net} {s count : ℕ} {p x order via room : List ℕ} (g : Grown N 
   flood-crosses last rooted few none = omega (
     arith,
     g .rest,
-    sum-to-eq (length p) (λ v. cond (eqb (at order v) 0) 1 0) (λ v. 0) (λ v l. gone v (reached N (length p) s (at p) (at x) (at order) (g .slack) (slack-feasible (g .slack)) (omega (arith, g .tree .root))
-        (λ u u-in ne. rw last (rooted .hangs u (omega arith))) none v l)),
+    sum-to-eq (length p) (λ v. cond (eqb (at order v) 0) 1 0) (λ v. 0)
+        (λ v l. gone v (reached N (length p) s (at p) (at x) (at order) (g .slack) (slack-feasible (g .slack))
+        (omega (arith, g .tree .root)) (λ u u-in ne. rw last (rooted .hangs u (omega arith))) none v l)),
     sum-to-zero (length p),
   )
     where

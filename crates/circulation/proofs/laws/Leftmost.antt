@@ -120,7 +120,8 @@ module _ (N : Net) (n : ℕ) (p x order via room : ℕ → ℕ) (wf : WellFormed
 shifted-same : (n : ℕ) (p q : ℕ → ℕ) → ((v : ℕ) → v < n → q v + p (n - 1) ≡ p v + potential-zero)
     → potentials-of n q ≡ relative n p
 shifted-same n p q e = upto-ext (n - 1) (λ v. pos (q v) -ℤ pos potential-zero) (λ v. pos (p v) -ℤ pos (p (n - 1))) (λ v l.
-    parts-eq (pos (q v) -ℤ pos potential-zero) (pos (p v) -ℤ pos (p (n - 1))) (omega (arith, less-parts (q v) potential-zero, less-parts (p v) (p (n - 1)), e v (omega arith))))
+    parts-eq (pos (q v) -ℤ pos potential-zero) (pos (p v) -ℤ pos (p (n - 1)))
+    (omega (arith, less-parts (q v) potential-zero, less-parts (p v) (p (n - 1)), e v (omega arith))))
 
 -- what the last search leaves, once the potentials are relative to ground's
 pub flooded-solution : (N : Net) (n : ℕ) (x nodes new : List ℕ) → WellFormed N n → size nodes ≡ n → Balanced N n (at x)
@@ -139,7 +140,8 @@ flooded-solution N n x nodes new wf size-is bal f settled =
 
     r : Relative N n (at x) (at (potentials nodes))
     r = solution N n (at (potentials nodes)) (at x) (at (ranks nodes)) (at (parents nodes)) (at (rooms nodes)) wf (f .grown .slack) bal
-        (subst (λ (k : ℕ). Tree N k (n - 1) (at (potentials nodes)) (at x) (at (ranks nodes)) (at (parents nodes)) (at (rooms nodes))) (column-length 0 nodes ∙ size-is) (f .grown .tree)) (f .whole)
+        (subst (λ (k : ℕ). Tree N k (n - 1) (at (potentials nodes)) (at x) (at (ranks nodes)) (at (parents nodes)) (at (rooms nodes)))
+        (column-length 0 nodes ∙ size-is) (f .grown .tree)) (f .whole)
 
     same : potentials-of n (at (potentials new)) ≡ relative n (at (potentials nodes))
     same = shifted-same n (at (potentials nodes)) (at (potentials new)) moved

@@ -100,7 +100,8 @@ module _ (N : Net) (n : ℕ) (p x : ℕ → ℕ) (wf : WellFormed N n) (slack : 
 
   -- the parts of what it brings to node v
   brings-parts : (v i : ℕ)
-      → up (inflow v (on-arc i)) + (pick (tail N i) v (x i) + pick (head N i) v flow-zero) ≡ down (inflow v (on-arc i)) + (pick (head N i) v (x i) + pick (tail N i) v flow-zero)
+      → up (inflow v (on-arc i)) + (pick (tail N i) v (x i) + pick (head N i) v flow-zero)
+      ≡ down (inflow v (on-arc i)) + (pick (head N i) v (x i) + pick (tail N i) v flow-zero)
   brings-parts v i = omega (
     arith,
     minus-parts (only (head N i) (pos (x i) -ℤ pos flow-zero) v) (only (tail N i) (pos (x i) -ℤ pos flow-zero) v),
@@ -113,7 +114,8 @@ module _ (N : Net) (n : ℕ) (p x : ℕ → ℕ) (wf : WellFormed N n) (slack : 
   unfolding up down
   balance-at v l = parts-eq (sum (inflow v) (upto (arcs N) on-arc)) (pos 0) (omega (
     arith,
-    sum-parts-to (inflow v) (arcs N) on-arc (λ i. pick (head N i) v (x i) + pick (tail N i) v flow-zero) (λ i. pick (tail N i) v (x i) + pick (head N i) v flow-zero) (brings-parts v),
+    sum-parts-to (inflow v) (arcs N) on-arc (λ i. pick (head N i) v (x i) + pick (tail N i) v flow-zero)
+        (λ i. pick (tail N i) v (x i) + pick (head N i) v flow-zero) (brings-parts v),
     sum-to-add (arcs N) (λ i. pick (head N i) v (x i)) (λ i. pick (tail N i) v flow-zero),
     sum-to-add (arcs N) (λ i. pick (tail N i) v (x i)) (λ i. pick (head N i) v flow-zero),
     bal .balance v l,
@@ -130,7 +132,8 @@ module _ (N : Net) (n : ℕ) (p x : ℕ → ℕ) (wf : WellFormed N n) (slack : 
 
   -- how far past its kink an arc is
   pub off-parts : (i : ℕ) → i < arcs N
-      → up (past-kink (relative n p) (arc-at (N .list) i)) + asks N p i ≡ down (past-kink (relative n p) (arc-at (N .list) i)) + stands N p i
+      → up (past-kink (relative n p) (arc-at (N .list) i)) + asks N p i
+      ≡ down (past-kink (relative n p) (arc-at (N .list) i)) + stands N p i
   off-parts i l = omega (
     arith,
     minus-parts (potential (relative n p) (head N i) -ℤ potential (relative n p) (tail N i)) (pos (kink N i) -ℤ pos kink-zero),
@@ -170,16 +173,21 @@ module _ (N : Net) (n : ℕ) (p x : ℕ → ℕ) (wf : WellFormed N n) (slack : 
   -- a flow is allowed
   allowed-at : (i : ℕ) → i < arcs N → T (allowed (on-arc i))
   unfolding low-of high-of
-  allowed-at i l = and-both (at-least (pos (x i) -ℤ pos flow-zero) (limit-of 0 (low N i))) (at-most (pos (x i) -ℤ pos flow-zero) (limit-of high-none (high N i)))
+  allowed-at i l =
+      and-both (at-least (pos (x i) -ℤ pos flow-zero) (limit-of 0 (low N i)))
+      (at-most (pos (x i) -ℤ pos flow-zero) (limit-of high-none (high N i)))
       (low-kept 0 (low N i) (x i) (slack .within i l .0))
       (high-kept high-none (high N i) (x i) (slack .within i l .1))
 
   -- the flows meet the rules
   pub follows : T (rules (meant N n) (flows-of (arcs N) x))
   unfolding rules
-  follows = rw (flows-by-index (arcs N) (arc-at (N .list)) (λ i. pos (x i) -ℤ pos flow-zero)) (and-both (all allowed (upto (arcs N) on-arc)) (balanced (n - 1) (upto (arcs N) on-arc))
+  follows =
+      rw (flows-by-index (arcs N) (arc-at (N .list)) (λ i. pos (x i) -ℤ pos flow-zero))
+      (and-both (all allowed (upto (arcs N) on-arc)) (balanced (n - 1) (upto (arcs N) on-arc))
       (all-upto allowed (arcs N) on-arc allowed-at)
-      (at-below (n - 1) (λ v. eqZ (sum (inflow v) (upto (arcs N) on-arc)) (pos 0)) (λ v l. eq→eqZ (sum (inflow v) (upto (arcs N) on-arc)) (pos 0) (balance-at v (omega arith)))))
+      (at-below (n - 1) (λ v. eqZ (sum (inflow v) (upto (arcs N) on-arc)) (pos 0))
+      (λ v l. eq→eqZ (sum (inflow v) (upto (arcs N) on-arc)) (pos 0) (balance-at v (omega arith)))))
 
   -- flows and potentials are in complementary slackness
   pub no-slacks : T (complementary (meant N n) (flows-of (arcs N) x) (relative n p))

@@ -18,7 +18,9 @@ run-requires c κs = search needs
 
 flood-requires : tie.Need-flood-requires
 flood-requires c κs =
-    let start = c .before .before .before .before .before .before .before .before .before .before .before .before .before .before .before .before .before in
+    let start =
+    c .before .before .before .before .before .before .before .before .before .before .before .before .before .before .before .before
+    .before in
     let run = c .before .before .before .before .before .before .before .before .before .run in (
       subst (λ (m : ℕ). StateAt (net (start .args .arcs .now) m) (run .last .1 .0) (run .last .1 .1 .0))
           (sym (run .kept .1 .0)) (run .ensures .0),
@@ -29,8 +31,12 @@ flood-requires c κs =
 
 finish-requires : tie.Need-finish-requires
 finish-requires c κs =
-    let start = c .before .before .before .before .before .before .before .before .before .before .before .before .before .before .before .before .before .before .before .before .before .before .before .before in
-    let run = c .before .before .before .before .before .before .before .before .before .before .before .before .before .before .before .before .run in
+    let start =
+    c .before .before .before .before .before .before .before .before .before .before .before .before .before .before .before .before
+    .before .before .before .before .before .before .before .before in
+    let run =
+    c .before .before .before .before .before .before .before .before .before .before .before .before .before .before .before .before .run
+    in
     let flood = c .before .before .before .before .before .before .flood in
     flooded-grounded (flood .last .1 .1 .0)
     (ap (λ (k : ℕ). k / node-stride) (flood .kept .1 .1 .0 ∙ run .kept .1 .1 .0)) (start .pre .wf) (start .pre .rooted)
@@ -54,8 +60,12 @@ same-length-3 c = search needs
 
 returns : tie.Need-returns
 returns c =
-    let start = c .before .before .before .before .before .before .before .before .before .before .before .before .before .before .before .before .before .before .before .before .before .before .before .before .before .before .before .before .before in
-    let run = c .before .before .before .before .before .before .before .before .before .before .before .before .before .before .before .before .before .before .before .before .before .run in
+    let start =
+    c .before .before .before .before .before .before .before .before .before .before .before .before .before .before .before .before
+    .before .before .before .before .before .before .before .before .before .before .before .before .before in
+    let run =
+    c .before .before .before .before .before .before .before .before .before .before .before .before .before .before .before .before
+    .before .before .before .before .before .run in
     let flood = c .before .before .before .before .before .before .before .before .before .before .before .flood in
     let finish = c .before .before .before .before .finish in (
       flooded-solution (net (start .args .arcs .now) (length (start .args .flows .now))) (size (start .args .nodes .now))

@@ -46,8 +46,10 @@ pairs-hook nodes (suc m) v s u h k =
     let x : Pair = record { left = v; minimum = getD s minimum-at 0; maximum = getD s maximum-at 0 } in
     let rest : List Arc = flatMap separation-arcs (pairs-of m (suc v) (drop separation-stride s)) in
     ⊎-elim
-    (λ (e : u ≡ suc v). subst (λ (w : ℕ). Hook nodes (separation-arcs x ++ rest) w) (sym e) (hook-first (separation-arcs x) rest (pair-hook nodes x)))
-    (λ (ne : u ≡ suc v → ⊥). hook-second (separation-arcs x) rest (pairs-hook nodes m (suc v) (drop separation-stride s) u (omega arith) (omega arith)))
+    (λ (e : u ≡ suc v). subst (λ (w : ℕ). Hook nodes (separation-arcs x ++ rest) w) (sym e)
+    (hook-first (separation-arcs x) rest (pair-hook nodes x)))
+    (λ (ne : u ≡ suc v → ⊥). hook-second (separation-arcs x) rest
+    (pairs-hook nodes m (suc v) (drop separation-stride s) u (omega arith) (omega arith)))
     (eq-or-ne u (suc v))
 
 -- a layer's first node hangs on ground
@@ -76,7 +78,8 @@ layer-hook width ground c v s u h k =
     let right : List Arc = upper-bound ground (v + length (l .pairs)) (pos width) ∷ [] in
     ⊎-elim
     (λ (e : u ≡ v). subst (λ (w : ℕ). Hook ground (layer-arcs width ground l) w) (sym e) (first-hook width ground l))
-    (λ (ne : u ≡ v → ⊥). hook-second left (pairs ++ right) (hook-first pairs right (pairs-hook ground (c - 1) v s u (omega arith) (omega arith))))
+    (λ (ne : u ≡ v → ⊥). hook-second left (pairs ++ right)
+    (hook-first pairs right (pairs-hook ground (c - 1) v s u (omega arith) (omega arith))))
     (eq-or-ne u v)
 
 -- each node of k layers hangs

@@ -17,7 +17,8 @@ use Rattle.network.specs.laws.Sums.{sum-append, sum-image, sum-flat, sum-null, 
 use Rattle.network.specs.Network.{Arc, Feasible, integers, Least, LeftmostLeast, legal, cost, total}
 use Rattle.drawing.specs.Sheet.{Pair, Layer, Sheet, pairs-of, layers-of, first-nodes, sheet-of}
 use Rattle.sheet.specs.Layout.{layers-at, first-layer-at, nodes-at, separations-at, separation-stride, minimum-at, maximum-at, next-layer}
-use Rattle.drawing.specs.Drawing.{coordinate, within-maximum, separated, edge-aligned, Drawing, edge-length, total-length, LeastDrawing, LeftmostDrawing}
+use Rattle.drawing.specs.Drawing.{coordinate, within-maximum, separated, edge-aligned, Drawing, edge-length, total-length}
+use Rattle.drawing.specs.Drawing.{LeastDrawing, LeftmostDrawing}
 use Rattle.drawing.specs.Arcs.{edge-arc, layer-arcs, network}
 use Rattle.network.specs.laws.Integers.{+ℤ-none}
 use Rattle.network.specs.laws.Models.{Models, models-least, models-leftmost}
@@ -36,8 +37,10 @@ legals-is S p e =
     let test : Arc → Bool = legal (integers p) in
     all-append test (map edge-arc (S .edges)) (flatMap arcs (S .layers))
     ∙ ap₂ _&&_
-    (all-image test edge-arc (S .edges) ∙ all-ext (λ x. test (edge-arc x)) (edge-aligned p) (λ x. edge-is p (x .kind) (x .upper) (x .lower)) (S .edges))
-    (all-flat test arcs (S .layers) ∙ all-ext (λ l. all test (arcs l)) (layer-test (S .width) p) (layer-is p (S .width) (S .nodes) e) (S .layers))
+    (all-image test edge-arc (S .edges) ∙ all-ext (λ x. test (edge-arc x)) (edge-aligned p) (λ x. edge-is p (x .kind) (x .upper) (x .lower))
+    (S .edges))
+    (all-flat test arcs (S .layers) ∙ all-ext (λ l. all test (arcs l)) (layer-test (S .width) p) (layer-is p (S .width) (S .nodes) e)
+    (S .layers))
 
 -- where every coordinate is within w, each node's is
 pub inside-at : (w : ℕ) (p : List ℕ) → T (all (λ x. leb x w) p) → (v : ℕ) → coordinate p v ≤ w
@@ -87,7 +90,8 @@ module _ (S : Sheet) (p : List ℕ) where
       sum-append costs (map edge-arc (S .edges)) (flatMap arcs (S .layers))
       ∙ ap₂ _+ℤ_
       (sum-image costs edge-arc (S .edges)
-      ∙ sum-pos (edge-aligned p) (λ e. costs (edge-arc e)) (edge-length p) (λ e. edge-cost p (e .kind) (e .upper) (e .lower)) (S .edges) (d .straight))
+      ∙ sum-pos (edge-aligned p) (λ e. costs (edge-arc e)) (edge-length p) (λ e. edge-cost p (e .kind) (e .upper) (e .lower)) (S .edges)
+      (d .straight))
       (sum-flat costs arcs (S .layers) ∙ sum-null (λ l. sum costs (arcs l)) (layer-cost p (S .width) (S .nodes)) (S .layers))
       ∙ +ℤ-idr (pos (total-length S p))
 
@@ -104,7 +108,8 @@ one-more p c v step rest u a b =
     let same : suc v + c ≡ v + suc c = omega arith in
     subst (λ (w : ℕ). coordinate p u ≤ coordinate p w) same
     (⊎-elim
-    (λ (e : u ≡ v). subst (λ (w : ℕ). coordinate p w ≤ coordinate p (suc v + c)) (sym e) (omega (arith, rest (suc v) (omega arith) (omega arith))))
+    (λ (e : u ≡ v). subst (λ (w : ℕ). coordinate p w ≤ coordinate p (suc v + c)) (sym e)
+    (omega (arith, rest (suc v) (omega arith) (omega arith))))
     (λ (ne : u ≡ v → ⊥). rest u (omega arith) (omega arith))
     (eq-or-ne u v))
 
@@ -114,7 +119,8 @@ separated-le p x t =
     omega (
       arith,
       leb→le (coordinate p (x .left) + x .minimum) (coordinate p (suc (x .left)))
-          (and-left (leb (coordinate p (x .left) + x .minimum) (coordinate p (suc (x .left)))) (within-maximum (x .maximum) (coordinate p (x .left)) (coordinate p (suc (x .left)))) t),
+          (and-left (leb (coordinate p (x .left) + x .minimum) (coordinate p (suc (x .left))))
+          (within-maximum (x .maximum) (coordinate p (x .left)) (coordinate p (suc (x .left)))) t),
     )
 
 -- no node of c pairs is right of the last one
@@ -132,7 +138,8 @@ in-layer : (width : ℕ) (p : List ℕ) (c v : ℕ) (s : List ℕ) → T (layer-
     → (u : ℕ) → v ≤ u → u < v + c → coordinate p u ≤ width
 in-layer width p c v s t u a b =
     let xs : List Pair = pairs-of (c - 1) v s in
-    let last : coordinate p (v + length xs) ≤ width = leb→le (coordinate p (v + length xs)) width (and-right (all (separated p) xs) (leb (coordinate p (v + length xs)) width) t) in
+    let last : coordinate p (v + length xs) ≤ width =
+    leb→le (coordinate p (v + length xs)) width (and-right (all (separated p) xs) (leb (coordinate p (v + length xs)) width) t) in
     le-trans (rightmost p (c - 1) v s (and-left (all (separated p) xs) (leb (coordinate p (v + length xs)) width) t) u a (omega arith))
     (subst (λ (n : ℕ). coordinate p (v + n) ≤ width) (length-pairs (c - 1) v s) last)
 
@@ -145,8 +152,10 @@ in-layers width p (suc k) v s t u a b =
     let l : Layer = record { first = v; pairs = pairs-of (c - 1) v (drop separations-at s) } in
     let ls : List Layer = layers-of k (v + c) (next-layer s) in
     ⊎-elim
-    (λ (here : u < v + c). in-layer width p c v (drop separations-at s) (and-left (layer-test width p l) (all (layer-test width p) ls) t) u a here)
-    (λ (past : v + c ≤ u). in-layers width p k (v + c) (next-layer s) (and-right (layer-test width p l) (all (layer-test width p) ls) t) u past b)
+    (λ (here : u < v + c). in-layer width p c v (drop separations-at s)
+    (and-left (layer-test width p l) (all (layer-test width p) ls) t) u a here)
+    (λ (past : v + c ≤ u). in-layers width p k (v + c) (next-layer s)
+    (and-right (layer-test width p l) (all (layer-test width p) ls) t) u past b)
     (lt-or-le u (v + c))
 
 module _ (s p : List ℕ) where
@@ -156,8 +165,10 @@ module _ (s p : List ℕ) where
   feasible-drawing d =
       let S : Sheet = sheet-of s in
       let size : length p ≡ S .nodes = sym (length-map p pos) ∙ d .size in
-      let t : T (all (edge-aligned p) (S .edges) && all (layer-test (S .width) p) (S .layers)) = rw (legals-is S p (ground-zero S p size)) at (d .legals) in
-      let ls : T (all (layer-test (S .width) p) (S .layers)) = and-right (all (edge-aligned p) (S .edges)) (all (layer-test (S .width) p) (S .layers)) t in
+      let t : T (all (edge-aligned p) (S .edges) && all (layer-test (S .width) p) (S .layers)) =
+      rw (legals-is S p (ground-zero S p size)) at (d .legals) in
+      let ls : T (all (layer-test (S .width) p) (S .layers)) =
+      and-right (all (edge-aligned p) (S .edges)) (all (layer-test (S .width) p) (S .layers)) t in
       record {
         size = size;
         inside =

@@ -106,7 +106,8 @@ unfolding Draws result
 refused-drawn bytes p y e = rw e (refl, (refl, refl))
 
 -- a sheet that was loaded
-pub loaded-drawn : {bytes old new : List ℕ} {c : Counts} (l : LoadedSheet bytes old new c) (p₀ : List ℕ) (y₀ : List ℤ) (p : List ℕ) (y : List ℤ) (d : Drawn)
+pub loaded-drawn : {bytes old new : List ℕ} {c : Counts} (l : LoadedSheet bytes old new c) (p₀ : List ℕ) (y₀ : List ℤ) (p : List ℕ)
+    (y : List ℤ) (d : Drawn)
     → DrawsHeld new c p₀ y₀ p y d → Draws (read-sheet bytes) p₀ y₀ p y d
 unfolding Draws
 loaded-drawn l p₀ y₀ p y d g = subst (λ (x : Result). Draws x p₀ y₀ p y d) (sym (holds-reads l)) (g (loaded-holds l))

@@ -45,8 +45,10 @@ module _ (bytes numbers : List ℕ) (read : read-sheet bytes ≡ elements number
       → LeastAssignment (sheet-of numbers) (integers (take (sheet-of numbers .nodes) p))
   unfolding Draws
   drawn-assigned total d =
-      let meets : DrawsSheet (sheet-of numbers) p₀ y₀ p y (Reply.value total) = subst (λ (z : Result). Draws z p₀ y₀ p y (Reply.value total)) read d in
-      drawing-least-assignment (sheet-of numbers) (accepts-proper numbers (read-accepted bytes numbers read)) (take (sheet-of numbers .nodes) p) (meets .leftmost .is-least)
+      let meets : DrawsSheet (sheet-of numbers) p₀ y₀ p y (Reply.value total) =
+      subst (λ (z : Result). Draws z p₀ y₀ p y (Reply.value total)) read d in
+      drawing-least-assignment (sheet-of numbers) (accepts-proper numbers (read-accepted bytes numbers read))
+      (take (sheet-of numbers .nodes) p) (meets .leftmost .is-least)
 
   -- where an assignment exists and the slices are long enough, a drawing is returned
   pub assigned-drawn : (x : List ℤ) → Assignment (sheet-of numbers) x → Room (sheet-of numbers) (length p₀) (length y₀)
@@ -55,5 +57,7 @@ module _ (bytes numbers : List ℕ) (read : read-sheet bytes ≡ elements number
   assigned-drawn x a room (Reply.value total) g = (total, refl)
   assigned-drawn x a room (Reply.refused r) g =
       let proper : Proper (sheet-of numbers) = accepts-proper numbers (read-accepted bytes numbers read) in
-      let meets : DrawsSheet (sheet-of numbers) p₀ y₀ p y (Reply.refused r) = subst (λ (z : Result). Draws z p₀ y₀ p y (Reply.refused r)) read g in
-      absurd (refused-none (sheet-of numbers) (length p₀) (length y₀) proper room (meets .0) .1 (shifted x) (shifted-drawing (sheet-of numbers) proper x a))
+      let meets : DrawsSheet (sheet-of numbers) p₀ y₀ p y (Reply.refused r) =
+      subst (λ (z : Result). Draws z p₀ y₀ p y (Reply.refused r)) read g in
+      absurd (refused-none (sheet-of numbers) (length p₀) (length y₀) proper room (meets .0) .1 (shifted x)
+      (shifted-drawing (sheet-of numbers) proper x a))

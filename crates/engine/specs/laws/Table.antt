@@ -33,8 +33,10 @@ use Rattle.engine.specs.laws.Refusals.{refused-none}
 use Rattle.engine.specs.Answers.{EveryDrawing, Answered, EveryAnswered}
 
 -- the answer for a sheet whose leftmost least drawing is known
-drawn-answer : (S : Sheet) (p₀ : List ℕ) (y₀ : List ℤ) (p : List ℕ) (y : List ℤ) (coordinates : List ℕ) (total : ℕ) → Proper S → Room S (length p₀) (length y₀)
-    → LeftmostDrawing S coordinates → total-length S coordinates ≡ total → (d : Drawn) → DrawsSheet S p₀ y₀ p y d → (d ≡ Reply.value total) × (take (S .nodes) p ≡ coordinates)
+drawn-answer : (S : Sheet) (p₀ : List ℕ) (y₀ : List ℤ) (p : List ℕ) (y : List ℤ) (coordinates : List ℕ) (total : ℕ) → Proper S
+    → Room S (length p₀) (length y₀)
+    → LeftmostDrawing S coordinates → total-length S coordinates ≡ total → (d : Drawn) → DrawsSheet S p₀ y₀ p y d
+    → (d ≡ Reply.value total) × (take (S .nodes) p ≡ coordinates)
 drawn-answer S p₀ y₀ p y coordinates total proper room l e (Reply.value t) g =
     let same : take (S .nodes) p ≡ coordinates = leftmost-unique S (take (S .nodes) p) coordinates (g .leftmost) l in
     (ap Reply.value (g .total-is ∙ ap (total-length S) same ∙ e), same)
@@ -46,16 +48,19 @@ none-answer : (S : Sheet) (p₀ : List ℕ) (y₀ : List ℤ) (p : List ℕ) (y 
     → NoDrawing S → (d : Drawn) → DrawsSheet S p₀ y₀ p y d → d ≡ Reply.refused (refusal no-drawing 0)
 none-answer S p₀ y₀ p y proper room n (Reply.value t) g = absurd (n (take (S .nodes) p) (g .leftmost .is-least .candidate))
 none-answer S p₀ y₀ p y proper room n (Reply.refused r) g =
-    ap₂ (λ (k o : ℕ). Reply.refused (record { number = k; offset = o })) (refused-none S (length p₀) (length y₀) proper room (g .0) .0) (g .1)
+    ap₂ (λ (k o : ℕ). Reply.refused (record { number = k; offset = o })) (refused-none S (length p₀) (length y₀) proper room (g .0) .0)
+    (g .1)
 
 -- the checker's word on places and a list of just the needed lengths
 check-word : (bytes numbers p : List ℕ) (y : List ℤ) (b : Bool) → read-sheet bytes ≡ elements numbers → length p ≡ sheet-of numbers .nodes
-    → length y ≡ certificate-size (sheet-of numbers) → judged (sheet-of numbers) p y ≡ b → check-answer (read-sheet bytes) p y ≡ Reply.value b
+    → length y ≡ certificate-size (sheet-of numbers) → judged (sheet-of numbers) p y ≡ b
+    → check-answer (read-sheet bytes) p y ≡ Reply.value b
 unfolding check-answer
 check-word bytes numbers p y b read places list e =
     rw read
     (numbers-decided numbers p y b (omega arith) (omega arith)
-    (ap₂ (judged (sheet-of numbers)) (take-all (sheet-of numbers .nodes) p (omega arith)) (take-all (certificate-size (sheet-of numbers)) y (omega arith)) ∙ e))
+    (ap₂ (judged (sheet-of numbers)) (take-all (sheet-of numbers .nodes) p (omega arith))
+    (take-all (certificate-size (sheet-of numbers)) y (omega arith)) ∙ e))
 
 -- a row that holds is answered so
 row-answered : (r : Row) → RowHolds r → Answered (r .bytes) (r .outcome)
@@ -69,7 +74,8 @@ row-answered r row = go (r .outcome) (row .says)
     proper = accepts-proper (row .numbers) (read-accepted (r .bytes) (row .numbers) (row .read))
 
     every : (P : List ℕ → Drawn → Type 0)
-        → ((p₀ : List ℕ) (y₀ : List ℤ) (p : List ℕ) (y : List ℤ) (d : Drawn) → Room S (length p₀) (length y₀) → DrawsSheet S p₀ y₀ p y d → P (take (S .nodes) p) d)
+        → ((p₀ : List ℕ) (y₀ : List ℤ) (p : List ℕ) (y : List ℤ) (d : Drawn) → Room S (length p₀) (length y₀) → DrawsSheet S p₀ y₀ p y d
+        → P (take (S .nodes) p) d)
         → EveryDrawing (r .bytes) P
     every P f = record {
       numbers = row .numbers;
@@ -79,8 +85,12 @@ row-answered r row = go (r .outcome) (row .says)
 
     go : (o : Outcome) → Says S o → Answered (r .bytes) o
     go (Outcome.drawn total coordinates list) s = record {
-      drawing = every (λ places d. (d ≡ Reply.value total) × (places ≡ coordinates)) (λ p₀ y₀ p y d room g. drawn-answer S p₀ y₀ p y coordinates total proper room (s .leftmost) (s .sum) d g);
-      checked = check-word (r .bytes) (row .numbers) coordinates list true (row .read) (s .leftmost .is-least .candidate .size) (s .list-size) (s .accepted);
+      drawing =
+          every (λ places d. (d ≡ Reply.value total) × (places ≡ coordinates))
+          (λ p₀ y₀ p y d room g. drawn-answer S p₀ y₀ p y coordinates total proper room (s .leftmost) (s .sum) d g);
+      checked =
+          check-word (r .bytes) (row .numbers) coordinates list true (row .read) (s .leftmost .is-least .candidate .size) (s .list-size)
+          (s .accepted);
     }
     go (Outcome.undrawable list) s =
         every (λ places d. d ≡ Reply.refused (refusal no-drawing 0)) (λ p₀ y₀ p y d room g. none-answer S p₀ y₀ p y proper room s d g)

@@ -46,12 +46,14 @@ module _ {P : Form → Rule → Type 0} where
     front-walk end at h = refl
     front-walk (each {m} {form} {rule} {next} p s) at h =
         rw (front-item front rest at (omega arith))
-        (followed-same (checked rule at (in-bytes front form at)) (λ n after. walk (next n) (in-bytes (front ++ rest)) after) (λ n after. walk (next n) (in-bytes front) after)
+        (followed-same (checked rule at (in-bytes front form at)) (λ n after. walk (next n) (in-bytes (front ++ rest)) after)
+        (λ n after. walk (next n) (in-bytes front) after)
         (λ n after i.
         let c = checked-value rule at n after (in-bytes front form at) i in
         front-walk (s n (c .1)) after (omega (arith, after-most form front at n after (c .0)))))
 
-    module _ (magic : List ℕ) {m : ℕ} {grammar : Grammar} (most : Each P m grammar) (long : length magic + number-bytes * m < length front) where
+    module _ (magic : List ℕ) {m : ℕ} {grammar : Grammar} (most : Each P m grammar)
+        (long : length magic + number-bytes * m < length front) where
       -- what follows a front is refused alike
       front-complete : (walk : Walk) → ((last : ℕ) (ns : List ℕ) → walk ≡ whole last ns → last < length front)
           → complete (length (front ++ rest)) walk ≡ complete (length front) walk
@@ -67,13 +69,20 @@ module _ {P : Form → Rule → Type 0} where
       front-bytes : walk-bytes magic grammar (front ++ rest) ≡ walk-bytes magic grammar front
       unfolding walk-bytes
       front-bytes =
-          rw (le-ltb (length (front ++ rest)) (length magic) (omega (arith, length-append front rest)), le-ltb (length front) (length magic) (omega arith), take-append-le (length magic) front rest (omega arith), front-walk most (length magic) (omega arith))
+          rw (
+            le-ltb (length (front ++ rest)) (length magic) (omega (arith, length-append front rest)),
+            le-ltb (length front) (length magic) (omega arith),
+            take-append-le (length magic) front rest (omega arith),
+            front-walk most (length magic) (omega arith),
+          )
 
       -- and completed by it
-      pub front-whole : complete (length (front ++ rest)) (walk-bytes magic grammar (front ++ rest)) ≡ complete (length front) (walk-bytes magic grammar front)
+      pub front-whole : complete (length (front ++ rest)) (walk-bytes magic grammar (front ++ rest))
+          ≡ complete (length front) (walk-bytes magic grammar front)
       front-whole =
           rw front-bytes
-          (front-complete (walk-bytes magic grammar front) (λ last ns e. omega (arith, last-most front most (good-bytes magic grammar front last ns e .chain))))
+          (front-complete (walk-bytes magic grammar front)
+          (λ last ns e. omega (arith, last-most front most (good-bytes magic grammar front last ns e .chain))))
 
   -- the first bytes are enough
   pub front-reading : (magic : List ℕ) {m : ℕ} {grammar : Grammar} → Each P m grammar → (bytes : List ℕ)
@@ -83,7 +92,8 @@ module _ {P : Form → Rule → Type 0} where
       let limit : ℕ = length magic + number-bytes * m + 1 in
       ⊎-elim
       (λ (h : limit < length bytes).
-      ap (made (λ ns. ns)) (sym (front-whole (take limit bytes) (drop limit bytes) magic most (omega (arith, length-take-le limit bytes (omega arith)))))
+      ap (made (λ ns. ns)) (sym (front-whole (take limit bytes) (drop limit bytes) magic most
+      (omega (arith, length-take-le limit bytes (omega arith)))))
       ∙ ap (reading magic grammar) (take-append-drop limit bytes))
       (λ (h : length bytes ≤ limit). ap (reading magic grammar) (take-all limit bytes h))
       (lt-or-le limit (length bytes))

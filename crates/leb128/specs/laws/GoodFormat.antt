@@ -15,7 +15,8 @@ use Rattle.leb128.specs.Source.{Item, refusal, in-bytes, in-list}
 use Rattle.leb128.specs.Source.Item.{value}
 use Rattle.leb128.specs.Walk.{Walk, walk}
 use Rattle.leb128.specs.Walk.Walk.{whole, refused}
-use Rattle.leb128.specs.Format.{Result, Outcome, same, complete, walk-bytes, walk-list, encoded, made, reading, writing, answered, filled}
+use Rattle.leb128.specs.Format.{Result, Outcome, same, complete, walk-bytes, walk-list, encoded, made, reading, writing}
+use Rattle.leb128.specs.Format.{answered, filled}
 use Rattle.leb128.specs.Format.Result.{elements}
 use Rattle.leb128.specs.declared.Refusal.{Refusal}
 use Rattle.leb128.specs.laws.Cases.{test, lt-or-le}
@@ -89,7 +90,11 @@ module _ (magic : List ℕ) (grammar : Grammar) where
       let f = rw (le-ltb (length bytes) (length magic) h) at e in
       ⊎-elim
       (λ (t : same (take (length magic) bytes) magic ≡ true).
-      record { long = h; opens = same-lists (take (length magic) bytes) magic t; chain = walk-chain grammar (in-bytes bytes) (length magic) last ns (rw t at f) })
+      record {
+        long = h;
+        opens = same-lists (take (length magic) bytes) magic t;
+        chain = walk-chain grammar (in-bytes bytes) (length magic) last ns (rw t at f);
+      })
       (λ (t : same (take (length magic) bytes) magic ≡ false). absurd (refused-not (rw t at f)))
       (test (same (take (length magic) bytes) magic)))
       (lt-or-le (length bytes) (length magic))

@@ -62,7 +62,8 @@ byte-steps bytes form at = go form (byte-item bytes at) refl
         rw is-r
         (⊎-elim
         (λ (h : length bytes < at + number-bytes). omega arith)
-        (λ (h : at + number-bytes ≤ length bytes). absurd (decode-not-ended number-bytes (drop at bytes) (omega (arith, length-drop at bytes)) i))
+        (λ (h : at + number-bytes ≤ length bytes). absurd (decode-not-ended number-bytes (drop at bytes)
+        (omega (arith, length-drop at bytes)) i))
         (lt-or-le (length bytes) (at + number-bytes)))
     shown Decoded.overlong i r e = let is-r : r ≡ refusal number-form at = cc in rw is-r (omega arith)
 
@@ -85,11 +86,13 @@ module _ {P : Form → Rule → Type 0} (step : ℕ) (source : Source) (steps : 
   walk-within (each {m} {form} {rule} {next} p s) at limit h =
       go (source form at) (steps form at) (λ n ok after k. walk-within (s n ok) after limit k)
     where
-      go : (item : Item) → Near (at + step) item → ((n : ℕ) → rule n ≡ 0 → (after : ℕ) → after + step * m ≤ limit → EndsWithin limit (walk (next n) source after))
+      go : (item : Item) → Near (at + step) item
+          → ((n : ℕ) → rule n ≡ 0 → (after : ℕ) → after + step * m ≤ limit → EndsWithin limit (walk (next n) source after))
           → EndsWithin limit (followed (checked rule at item) (λ n after. walk (next n) source after))
       go (value n after) near again =
           ⊎-elim
-          (λ (ok : rule n ≡ 0). rw (eq-eqb (rule n) 0 ok) (led-within limit n (walk (next n) source after) (again n ok after (omega arith))))
+          (λ (ok : rule n ≡ 0). rw (eq-eqb (rule n) 0 ok)
+          (led-within limit n (walk (next n) source after) (again n ok after (omega arith))))
           (λ (broken : rule n ≡ 0 → ⊥). rw (ne-eqb (rule n) 0 broken) (omega arith))
           (eq-or-ne (rule n) 0)
       go (Item.refused r) near again = omega arith
@@ -112,7 +115,8 @@ made-within limit f (whole last ns) r h e = let z : _≡_ {A = ℕ} 0 1 = cc in 
 made-within limit f (refused s) r h e = let is-r : s ≡ r = cc in rw is-r at h
 
 -- a magic that is cut off or another one
-opened-within : (limit : ℕ) (magic bytes : List ℕ) (short same : Bool) (w : Walk) → ltb (length bytes) (length magic) ≡ short → length magic ≤ limit → EndsWithin limit w
+opened-within : (limit : ℕ) (magic bytes : List ℕ) (short same : Bool) (w : Walk) → ltb (length bytes) (length magic) ≡ short
+    → length magic ≤ limit → EndsWithin limit w
     → EndsWithin limit (cond short (refused (refusal input-ended (length bytes))) (cond same w (refused (refusal other-magic 0))))
 opened-within limit magic bytes true same w e k h = omega (arith, ltb-true (length bytes) (length magic) e)
 opened-within limit magic bytes false true w e k h = h
@@ -127,7 +131,8 @@ module _ {P : Form → Rule → Type 0} {m : ℕ} {grammar : Grammar} (most : Ea
       let limit : ℕ = length magic + number-bytes * m in
       made-within limit (λ ns. ns) (complete (length bytes) (walk-bytes magic grammar bytes)) r
       (complete-within limit (length bytes) (walk-bytes magic grammar bytes)
-      (opened-within limit magic bytes (ltb (length bytes) (length magic)) (same (take (length magic) bytes) magic) (walk grammar (in-bytes bytes) (length magic)) refl (omega arith)
+      (opened-within limit magic bytes (ltb (length bytes) (length magic)) (same (take (length magic) bytes) magic)
+      (walk grammar (in-bytes bytes) (length magic)) refl (omega arith)
       (walk-within number-bytes (in-bytes bytes) (byte-steps bytes) most (length magic) limit (omega arith)))) e
 
   -- the writer refuses at one of the first m numbers, or right behind them

@@ -39,7 +39,9 @@ module _ (P : ℕ → Type 0) where
     list-refused : (numbers : List ℕ) (at : ℕ) (r : Refusal) → list-item numbers at ≡ Item.refused r → P (r .number)
     list-refused numbers at r e =
         ⊎-elim
-        (λ (h : at < length numbers). let f : value _ _ ≡ Item.refused r = sym (list-value numbers at h) ∙ e in let z : _≡_ {A = ℕ} 0 1 = cc in absurd (omega arith))
+        (λ (h : at < length numbers).
+        let f : value _ _ ≡ Item.refused r = sym (list-value numbers at h) ∙ e in
+        let z : _≡_ {A = ℕ} 0 1 = cc in absurd (omega arith))
         (λ (h : length numbers ≤ at).
         let f : Item.refused (refusal input-ended (length numbers)) ≡ Item.refused r = sym (list-ended numbers at h) ∙ e in
         let is-r : r ≡ refusal input-ended (length numbers) = cc in
@@ -80,7 +82,9 @@ module _ (P : ℕ → Type 0) where
     unfolding checked
     checked-refused form rule at (value n after) r gives h e =
         ⊎-elim
-        (λ (ok : rule n ≡ 0). let f : value n after ≡ Item.refused r = sym (checked-good rule at n after ok) ∙ e in let z : _≡_ {A = ℕ} 0 1 = cc in absurd (omega arith))
+        (λ (ok : rule n ≡ 0).
+        let f : value n after ≡ Item.refused r = sym (checked-good rule at n after ok) ∙ e in
+        let z : _≡_ {A = ℕ} 0 1 = cc in absurd (omega arith))
         (λ (broken : rule n ≡ 0 → ⊥).
         let f : Item.refused (refusal (rule n) at) ≡ Item.refused r = sym (checked-broken rule at n after broken) ∙ e in
         let is-r : r ≡ refusal (rule n) at = cc in
@@ -149,7 +153,8 @@ module _ (P : ℕ → Type 0) where
         reader-gives {grammar = grammar} gives magic bytes r e =
             made-refused (λ ns. ns) (complete (length bytes) (walk-bytes magic grammar bytes)) r
             (complete-refused (length bytes) (walk-bytes magic grammar bytes) r
-            (opened-refused (ltb (length bytes) (length magic)) (same (take (length magic) bytes) magic) (length bytes) (walk grammar (in-bytes bytes) (length magic)) r
+            (opened-refused (ltb (length bytes) (length magic)) (same (take (length magic) bytes) magic) (length bytes)
+            (walk grammar (in-bytes bytes) (length magic)) r
             (walk-refused gives (in-bytes bytes) (byte-source form-broken bytes) (length magic) r))) e
 
       module _ (short : P slice-short) where
@@ -176,4 +181,5 @@ module _ (P : ℕ → Type 0) where
         unfolding writing walk-list
         writer-gives {grammar = grammar} gives magic numbers room r e =
             answer-refused room (λ ns. magic ++ encoded grammar ns) (complete (length numbers) (walk grammar (in-list numbers) 0)) r
-            (complete-refused (length numbers) (walk grammar (in-list numbers) 0) r (walk-refused gives (in-list numbers) (list-source numbers) 0 r)) e
+            (complete-refused (length numbers) (walk grammar (in-list numbers) 0) r
+            (walk-refused gives (in-list numbers) (list-source numbers) 0 r)) e

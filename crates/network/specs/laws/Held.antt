@@ -16,7 +16,8 @@ use Rattle.network.specs.Flows.{Flow, flows, rules, complementary}
 use Rattle.network.specs.laws.Integers.{≤ℤ-trans, ≤ℤ-of-eq, +ℤ-mono}
 use Rattle.network.specs.laws.Tests.{and-left, and-right}
 use Rattle.network.specs.laws.Duality.{tight-leftmost}
-use Rattle.network.specs.laws.Residuals.{Residual, meets, unless, back, forth, residuals-of, residuals, residuals-met, kink-back, kink-forth}
+use Rattle.network.specs.laws.Residuals.{Residual, meets, unless, back, forth, residuals-of, residuals, residuals-met}
+use Rattle.network.specs.laws.Residuals.{kink-back, kink-forth}
 
 -- x is an element of a list
 pub data Among {A : Type 0} (x : A) : List A → Type 0 where

@@ -157,7 +157,8 @@ module _ (p : List ℤ) (rs : List Residual) where
   reach zero H s z few = onward zero H s z (search-all p H rs) (λ u e s′ z′ less. absurd (omega (arith, few, less)))
   reach (suc n) H s z few =
       onward (suc n) H s z (search-all p H rs)
-      (λ u e s′ z′ less. subst (λ (G : ℕ → Bool). Reached p rs (steps n p G rs)) (sym e) (reach n (add u H) s′ z′ (omega (arith, few, less))))
+      (λ u e s′ z′ less. subst (λ (G : ℕ → Bool). Reached p rs (steps n p G rs)) (sym e)
+      (reach n (add u H) s′ z′ (omega (arith, few, less))))
 
   -- so it is with a step for each node
   pub held-reached : Reached p rs (held-set p rs)

@@ -69,7 +69,8 @@ flows-upto f y (suc n) =
     ∙ sym (upto-first n (λ i. record { on = f i; amount = getD y i (pos 0) }))
   where
     next : (i : ℕ)
-        → _≡_ {A = Flow} (record { on = f (suc i); amount = getD (drop 1 y) i (pos 0) }) (record { on = f (suc i); amount = getD y (suc i) (pos 0) })
+        → _≡_ {A = Flow} (record { on = f (suc i); amount = getD (drop 1 y) i (pos 0) })
+        (record { on = f (suc i); amount = getD y (suc i) (pos 0) })
     next i = ap (λ (x : ℤ). record { on = f (suc i); amount = x })
         (getD-drop 1 y i (pos 0) ∙ ap (λ (k : ℕ). getD y k (pos 0)) (omega arith))
 
@@ -87,7 +88,8 @@ module _ {A : Type 0} (t : A → Bool) where
   all-upto zero f h = tt
   all-upto (suc n) f h =
       rw (all-append t (upto n f) (f n ∷ []))
-      (and-both (all t (upto n f)) (all t (f n ∷ [])) (all-upto n f (λ i l. h i (omega arith))) (and-both (t (f n)) (all t []) (h n (omega arith)) tt))
+      (and-both (all t (upto n f)) (all t (f n ∷ [])) (all-upto n f (λ i l. h i (omega arith)))
+      (and-both (t (f n)) (all t []) (h n (omega arith)) tt))
 
   -- each element by index passes a test that all pass
   pub upto-all : (n : ℕ) (f : ℕ → A) → T (all t (upto n f)) → (i : ℕ) → i < n → T (t (f i))

@@ -46,7 +46,8 @@ module _ (Candidate : List ℕ → Type 0) (measure : List ℕ → ℕ) where
         record {
           candidate = c;
           least = λ q d. nat-le (subst₂ _≤ℤ_ (sym (m .totals p c)) (sym (m .totals q d))
-              (+ℤ-mono {a = total N (integers p)} {b = total N (integers q)} {c = k} {d = k} (h .least (integers q) (m .feasible q d)) (≤ℤ-of-eq (λ i. k))));
+              (+ℤ-mono {a = total N (integers p)} {b = total N (integers q)} {c = k} {d = k} (h .least (integers q) (m .feasible q d))
+              (≤ℤ-of-eq (λ i. k))));
         }
 
     -- candidates of equal measure have equal totals
@@ -76,7 +77,8 @@ module _ (Candidate : List ℕ → Type 0) (measure : List ℕ → ℕ) where
         feasible = m .feasible p (h .candidate);
         least = λ q d. subst (λ (r : List ℤ). total N (integers p) ≤ℤ total N r) (natural q d)
             (cancel-le (total N (integers p)) (total N (integers (map up q))) k
-            (subst₂ _≤ℤ_ (m .totals p (h .candidate)) (m .totals (map up q) (candidate-of q d)) (le-nat (h .least (map up q) (candidate-of q d)))));
+            (subst₂ _≤ℤ_ (m .totals p (h .candidate)) (m .totals (map up q) (candidate-of q d))
+            (le-nat (h .least (map up q) (candidate-of q d)))));
       }
 
       -- what is leftmost among the least candidates is so in the network

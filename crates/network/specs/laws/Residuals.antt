@@ -111,9 +111,11 @@ module _ (q : List ℤ) (f : Flow) where
       let tail : ℤ = potential q (f .on .tail) in
       differences-tight (f .on) (f .amount) (past-kink q (f .on))
       (λ n. past-not head tail (f .on .kink)
-      (leZ-yes (all-unless (meets q) (reached (f .on .high) (f .amount)) _ (and-left (all (meets q) (back f)) (all (meets q) (forth f)) a) n)))
+      (leZ-yes (all-unless (meets q) (reached (f .on .high) (f .amount)) _
+      (and-left (all (meets q) (back f)) (all (meets q) (forth f)) a) n)))
       (λ n. before-not head tail (f .on .kink)
-      (leZ-yes (all-unless (meets q) (reached (f .on .low) (f .amount)) _ (and-right (all (meets q) (back f)) (all (meets q) (forth f)) a) n)))
+      (leZ-yes (all-unless (meets q) (reached (f .on .low) (f .amount)) _
+      (and-right (all (meets q) (back f)) (all (meets q) (forth f)) a) n)))
 
   -- so both say the same
   tight-is : tight q f ≡ all (meets q) (residuals-of f)

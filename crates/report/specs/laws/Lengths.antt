@@ -25,7 +25,8 @@ use Rattle.drawing.specs.laws.Proper.{nodes-are, accepts-proper}
 use Rattle.drawing.specs.laws.SameDrawings.{length-pairs, inside-at}
 use Rattle.drawing.specs.laws.Unique.{total-small}
 use Rattle.report.specs.Decimal.{digit-count, decimal}
-use Rattle.report.specs.Text.{space, newline, total-word, refused-word, at-word, field, total-line, node-line, node-lines, layer-lines, layers-lines, drawing-lines, refusal-line, drawing-text}
+use Rattle.report.specs.Text.{space, newline, total-word, refused-word, at-word, field, total-line, node-line, node-lines}
+use Rattle.report.specs.Text.{layer-lines, layers-lines, drawing-lines, refusal-line, drawing-text}
 use Rattle.report.specs.laws.Fewest.{decimal-le}
 
 -- the longest line of a node, where no place is greater than this one
@@ -60,7 +61,14 @@ node-line-le : (layer position place m : ℕ) → layer ≤ max-layers → posit
     → length (node-line layer position place) ≤ line-limit m
 unfolding line-limit
 node-line-le layer position place m a b c =
-    omega (arith, node-line-length layer position place, node-line-length max-layers max-layer-nodes m, field-le space a, field-le space b, field-le newline c)
+    omega (
+      arith,
+      node-line-length layer position place,
+      node-line-length max-layers max-layer-nodes m,
+      field-le space a,
+      field-le space b,
+      field-le newline c,
+    )
 
 -- the nodes below n have places up to m
 module _ (p : List ℕ) (n m : ℕ) (small : (v : ℕ) → v < n → coordinate p v ≤ m) where
@@ -88,7 +96,8 @@ module _ (p : List ℕ) (n m : ℕ) (small : (v : ℕ) → v < n → coordinate 
       ap suc (length-pairs (c - 1) u (drop separations-at s)) ∙ omega (arith, g .0) in
       let first : List ℕ = node-lines p layer c 1 u in
       let others : List ℕ = layers-lines p (layer + 1) (layers-of k (u + c) (next-layer s)) in
-      let both : length (node-lines p layer (suc (length (pairs-of (c - 1) u (drop separations-at s)))) 1 u ++ others) ≡ length first + length others =
+      let both : length (node-lines p layer (suc (length (pairs-of (c - 1) u (drop separations-at s)))) 1 u ++ others)
+      ≡ length first + length others =
       ap (λ (i : ℕ). length (node-lines p layer i 1 u ++ others)) size ∙ length-append first others in
       omega (
         arith,
@@ -130,7 +139,8 @@ unfolding refusal-line
 refusal-line-le r number offset a b =
     omega (arith, line-length (r .number) (r .offset), line-length number offset, field-le space a, field-le newline b)
   where
-    line-length : (n o : ℕ) → length (refused-word ++ field n space ++ at-word ++ field o newline) ≡ 11 + length (field n space) + length (field o newline)
+    line-length : (n o : ℕ)
+        → length (refused-word ++ field n space ++ at-word ++ field o newline) ≡ 11 + length (field n space) + length (field o newline)
     line-length n o =
         omega (
           arith,
@@ -193,6 +203,11 @@ module _ (bytes p : List ℕ) (total : ℕ) (text : List ℕ) (e : drawing-text 
         ap length (m .is ∙ ap (λ (s : List ℕ). drawing-lines (sheet-of s) p total) same),
         drawn-text-limit,
         drawing-lines-le numbers p total max-width (max-edges * max-width) (good-layout numbers accepts)
-            (λ v i. omega (arith, proper .width, inside-at (S .width) (take (S .nodes) p) (d .inside) v, getD-take (S .nodes) p v 0 (omega (arith, nodes-are numbers))))
+            (λ v i. omega (
+              arith,
+              proper .width,
+              inside-at (S .width) (take (S .nodes) p) (d .inside) v,
+              getD-take (S .nodes) p v 0 (omega (arith, nodes-are numbers)),
+            ))
             (omega (arith, t, total-small S (take (S .nodes) p) proper d)),
       )

@@ -16,7 +16,9 @@ use Rattle.sheet.specs.Reading.{read-sheet}
 
 -- what is read from these bytes behind the magic
 read-behind : List ℕ → Result
-unfolding decode grouped within both crossed separation separations layers edge edges sheet decoded-item byte-item raised in-bytes checked led followed walk same complete walk-bytes made reading read-sheet
+unfolding
+    decode grouped within both crossed separation separations layers edge edges sheet
+    decoded-item byte-item raised in-bytes checked led followed walk same complete walk-bytes made reading read-sheet
 read-behind bytes = read-sheet (magic ++ bytes)
 
 -- two bytes are too few

@@ -16,7 +16,8 @@ use Rattle.sheet.specs.inside.Cursor.{Measure, measured, walk-from}
 
 -- the magic, byte by byte
 pub magic-bytes : (bytes : List ℕ) → length magic ≤ length bytes
-    → same (take (length magic) bytes) magic ≡ (eqb (getD bytes 0 0) (getD magic 0 0) && (eqb (getD bytes 1 0) (getD magic 1 0) && eqb (getD bytes 2 0) (getD magic 2 0)))
+    → same (take (length magic) bytes) magic ≡ (eqb (getD bytes 0 0) (getD magic 0 0)
+    && (eqb (getD bytes 1 0) (getD magic 1 0) && eqb (getD bytes 2 0) (getD magic 2 0)))
 unfolding same
 magic-bytes [] h = absurd (omega arith)
 magic-bytes (a ∷ []) h = absurd (omega arith)

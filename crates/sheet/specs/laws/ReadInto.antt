@@ -30,7 +30,8 @@ answered-refused room (elements es) {r} fits e =
 answered-refused room (Result.refused s) {r} fits e = let are : s ≡ r = cc in ap Result.refused are
 
 -- what the reader answered and left
-module _ {answer : Answer} (bytes old new : List ℕ) (e : outcome answer ≡ answered (length old) (read-sheet bytes)) (f : new ≡ filled (read-sheet bytes) old) where
+module _ {answer : Answer} (bytes old new : List ℕ) (e : outcome answer ≡ answered (length old) (read-sheet bytes))
+    (f : new ≡ filled (read-sheet bytes) old) where
   module _ {count : ℕ} (is : answer ≡ Done count) where
     -- the numbers that were read, how many they are, and that they have room
     done : (es : List ℕ) × (read-sheet bytes ≡ elements es) × (count ≡ length es) × (length es ≤ length old)
@@ -62,4 +63,5 @@ module _ {answer : Answer} (bytes old new : List ℕ) (e : outcome answer ≡ an
     pub read-refused : read-sheet bytes ≡ Result.refused r
     unfolding outcome
     read-refused =
-        answered-refused (length old) (read-sheet bytes) (λ es i. omega (arith, most-numbers es (read-accepted bytes es i))) (sym e ∙ ap outcome is)
+        answered-refused (length old) (read-sheet bytes) (λ es i. omega (arith, most-numbers es (read-accepted bytes es i)))
+        (sym e ∙ ap outcome is)

@@ -15,7 +15,8 @@ use Rattle.leb128.specs.Number.{AreBytes}
 use Rattle.leb128.specs.laws.EachNumber.{each-map, most-asked as format-most-asked}
 use Rattle.leb128.specs.laws.AcceptedNumbers.{chain-accepts, most-numbers as accepted-most}
 use Rattle.leb128.specs.laws.GoodFormat.{good-reading, good-writing}
-use Rattle.leb128.specs.laws.OneToOne.{Fits, accepted-written as format-accepted-written, read-written as format-read-written, write-read as format-write-read}
+use Rattle.leb128.specs.laws.OneToOne.{Fits, accepted-written as format-accepted-written, read-written as format-read-written}
+use Rattle.leb128.specs.laws.OneToOne.{write-read as format-write-read}
 use Rattle.leb128.specs.laws.Offsets.{reader-offsets as format-reader-offsets, writer-offsets as format-writer-offsets}
 use Rattle.leb128.specs.laws.FirstBytes.{front-reading, most-bytes as format-most-bytes}
 use Rattle.leb128.specs.laws.RefusalsGiven.{reader-gives, writer-gives}
@@ -107,7 +108,8 @@ pub reader-refusals : (bytes : List ℕ) (r : Refusal) → read-sheet bytes ≡ 
 unfolding read-sheet
 reader-refusals =
     reader-gives FormatRefusal (omega arith, omega arith) (omega arith, omega arith) (omega arith, omega arith) (omega arith, omega arith)
-    (each-map (λ form rule p n. ⊎-elim (λ (z : rule n ≡ 0). inl z) (λ (w : WriterRefusal (rule n)). inr (writer-given w)) (p .gives n)) each-sheet) magic
+    (each-map (λ form rule p n. ⊎-elim (λ (z : rule n ≡ 0). inl z) (λ (w : WriterRefusal (rule n)). inr (writer-given w))
+    (p .gives n)) each-sheet) magic
 
 -- the reader refuses at an offset of at most 5,121
 pub reader-offsets : (bytes : List ℕ) (r : Refusal) → read-sheet bytes ≡ Result.refused r → r .offset ≤ max-bytes

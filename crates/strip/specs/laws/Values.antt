@@ -16,7 +16,8 @@ use Rattle.leb128.specs.laws.Cases.{lt-or-le}
 use Rattle.leb128.specs.Reply.{Reply}
 use Rattle.sheet.specs.Limits.{max-bytes}
 use Rattle.sheet.specs.Reading.{read-sheet, write-sheet}
-use Rattle.sheet.specs.laws.Sheets.{read-accepted, most-numbers, most-bytes, read-written, writer-refusals, writer-given, reader-refusals, reader-offsets, writer-offsets}
+use Rattle.sheet.specs.laws.Sheets.{read-accepted, most-numbers, most-bytes, read-written, writer-refusals, writer-given}
+use Rattle.sheet.specs.laws.Sheets.{reader-refusals, reader-offsets, writer-offsets}
 use Rattle.sheet.specs.Refusals.{FormatRefusal}
 use Rattle.drawing.specs.Sheet.{Sheet, sheet-of}
 use Rattle.checker.specs.Verdict.{check-answer}
@@ -64,7 +65,8 @@ writing-held numbers room = go (write-sheet numbers) refl
     go : (written : Result) → write-sheet numbers ≡ written → HeldOutcome (answered room written)
     go (elements bytes) e = elements-held room bytes (omega (arith, most-bytes bytes numbers (read-written numbers bytes e)))
     go (Result.refused r) e =
-        refused-held room r (given-held r (writer-given (writer-refusals numbers room r (rw e (refused-answer room r)))) (omega (arith, writer-offsets numbers r e)))
+        refused-held room r (given-held r (writer-given (writer-refusals numbers room r (rw e (refused-answer room r))))
+        (omega (arith, writer-offsets numbers r e)))
 
 -- of a good sheet, drawn
 sheet-held : (S : Sheet) (p₀ : List ℕ) (y₀ : List ℤ) (p : List ℕ) (y : List ℤ) (d : Drawn) → DrawsSheet S p₀ y₀ p y d
