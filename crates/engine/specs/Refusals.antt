@@ -1,5 +1,7 @@
--- The refusals that drawing adds to reading, by document 01's numbers.
-use Prim.Native.Nat.{ℕ}
+-- The refusals that drawing adds to reading, by document 01's numbers, and all that it gives.
+use Prim.Native.Nat.{ℕ, _≤_, _<_}
+use Rattle.leb128.specs.declared.Refusal.{Refusal}
+use Rattle.sheet.specs.Limits.{max-bytes}
 use Rattle.leftmost.specs.Solutions.{Finding}
 
 -- no drawing exists
@@ -20,3 +22,8 @@ unfoldable pub finding-refusal : Finding → ℕ
 finding-refusal Finding.solved = 0
 finding-refusal Finding.none = no-drawing
 finding-refusal Finding.malformed = no-drawing
+
+-- a refusal of drawing: a number from 1 to 8, at an offset within the longest sheet
+pub record DrawRefusal (r : Refusal) : Type 0 where
+  pub number-in : (0 < r .number) × (r .number ≤ no-drawing)
+  pub offset-in : r .offset ≤ max-bytes

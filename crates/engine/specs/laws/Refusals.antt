@@ -1,12 +1,23 @@
--- Why a good sheet is refused where the slices are long enough.
-use Prim.Native.Nat.{ℕ}
-use mathlib.Core.Path.{_≡_, refl}
+-- Drawing refuses with 1 to 8 only, never with 9, and at an offset of at most 5,121: its refusals are those of reading, of slices
+-- that are too short, and of a sheet without a drawing.
+use Prim.Native.Nat.{ℕ, _≤_, _<_}
+use mathlib.Core.Path.{_≡_, refl, sym}
+use mathlib.Core.List.{List}
 use native.Mathlib.Omega.{arith}
-use Rattle.drawing.specs.Sheet.{Sheet}
+use lib.IntN.{ℤ}
+use lib.ListN.{length}
+use Rattle.leb128.specs.Format.{Result}
+use Rattle.leb128.specs.Format.Result.{elements}
+use Rattle.leb128.specs.Reply.{Reply}
+use Rattle.leb128.specs.declared.Refusal.{Refusal}
+use Rattle.sheet.specs.Reading.{read-sheet}
+use Rattle.sheet.specs.laws.Sheets.{read-accepted, reader-refusals, reader-offsets}
+use Rattle.drawing.specs.Sheet.{Sheet, sheet-of}
 use Rattle.drawing.specs.Proper.{Proper}
+use Rattle.drawing.specs.laws.Proper.{accepts-proper}
 use Rattle.drawing.specs.laws.Unique.{total-small}
-use Rattle.engine.specs.Refusals.{no-drawing}
-use Rattle.engine.specs.Draws.{Room, NoDrawing, Refuses}
+use Rattle.engine.specs.Refusals.{no-drawing, DrawRefusal}
+use Rattle.engine.specs.Draws.{Room, NoDrawing, Refuses, Draws}
 use Rattle.engine.specs.Draws.Refuses.{few-places, few-numbers, none, passes}
 
 -- with slices that are long enough a good sheet is refused for want of a drawing only
@@ -16,3 +27,33 @@ refused-none S places list proper room (few-places h) = absurd (omega (arith, ro
 refused-none S places list proper room (few-numbers h) = absurd (omega (arith, room .numbers))
 refused-none S places list proper room (none r h) = (refl, h)
 refused-none S places list proper room (passes p r b h) = absurd (omega (arith, total-small S p proper (b .is-least .candidate)))
+
+-- a good sheet is refused with 7 or 8: no total passes the limit
+sheet-numbers : (S : Sheet) (places list : ℕ) → Proper S → {n : ℕ} → Refuses S places list n → (0 < n) × (n ≤ no-drawing)
+sheet-numbers S places list proper (few-places h) = omega arith
+sheet-numbers S places list proper (few-numbers h) = omega arith
+sheet-numbers S places list proper (none r h) = omega arith
+sheet-numbers S places list proper (passes p r b h) = absurd (omega (arith, total-small S p proper (b .is-least .candidate)))
+
+module _ (bytes p₀ : List ℕ) (y₀ : List ℤ) (p : List ℕ) (y : List ℤ) (r : Refusal)
+    (d : Draws (read-sheet bytes) p₀ y₀ p y (Reply.refused r)) where
+  -- what drawing refuses
+  pub draw-refusals : DrawRefusal r
+  unfolding Draws
+  draw-refusals = go (read-sheet bytes) refl d
+    where
+      go : (read : Result) → read-sheet bytes ≡ read → Draws read p₀ y₀ p y (Reply.refused r) → DrawRefusal r
+      go (elements numbers) e g =
+          let proper : Proper (sheet-of numbers) = accepts-proper numbers (read-accepted bytes numbers e) in
+          record {
+            number-in = sheet-numbers (sheet-of numbers) (length p₀) (length y₀) proper (g .0);
+            offset-in = omega (arith, g .1);
+          }
+      go (Result.refused s) e g =
+          let is-s : s ≡ r = cc in
+          let n = reader-refusals bytes s e in
+          rw (sym is-s) (record { number-in = (n .0, omega (arith, n .1)); offset-in = reader-offsets bytes s e })
+
+  -- 9 is never given
+  pub never-nine : r .number ≡ 9 → ⊥
+  never-nine e = omega (arith, draw-refusals .number-in)
