@@ -16,8 +16,6 @@ pub const EXCESS: u32 = 6;
 pub const SLICE_TOO_SHORT: u32 = 7;
 /// No drawing exists.
 pub const NO_DRAWING: u32 = 8;
-/// The total is too large.
-pub const TOTAL_TOO_LARGE: u32 = 9;
 
 /// One of the numbers above, and an offset in bytes (for the writer: an index).
 #[derive(Clone, Copy, Debug, PartialEq, Eq)]

@@ -96,7 +96,6 @@ static void refusals(void) {
     assert(STRIP_OK == 0 && STRIP_INPUT_ENDED == 1 && STRIP_NOT_A_SHEET == 2);
     assert(STRIP_NUMBER_FORM == 3 && STRIP_OUTSIDE_LIMITS == 4 && STRIP_SEPARATIONS_CROSSED == 5);
     assert(STRIP_SOMETHING_FOLLOWS == 6 && STRIP_SLICE_SHORT == 7 && STRIP_NO_DRAWING == 8);
-    assert(STRIP_TOTAL_LARGE == 9);
 }
 
 /* The two parts of an answer fill 32 bits each. */

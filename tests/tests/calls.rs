@@ -8,10 +8,7 @@ use std::fs;
 use std::process::Command;
 
 use strip::Refusal;
-use tools::{compiler, folder, output, python, root, LIBRARY};
-
-/// The header, from the root of the repository.
-const HEADER: &str = "crates/strip/include/strip.h";
+use tools::{compiler, folder, output, python, refusals, root, HEADER, LIBRARY};
 
 #[test]
 fn calls_from_c_are_answered() {
@@ -68,7 +65,6 @@ fn wrapper_has_the_numbers_of_the_header() {
         ("SOMETHING_FOLLOWS", Refusal::SOMETHING_FOLLOWS),
         ("SLICE_SHORT", Refusal::SLICE_SHORT),
         ("NO_DRAWING", Refusal::NO_DRAWING),
-        ("TOTAL_LARGE", Refusal::TOTAL_LARGE),
         ("MAX_SHEET_BYTES", strip::MAX_SHEET_BYTES as u32),
         ("MAX_NUMBERS", strip::MAX_NUMBERS as u32),
         ("MAX_PLACES", strip::MAX_PLACES as u32),
@@ -77,6 +73,12 @@ fn wrapper_has_the_numbers_of_the_header() {
     ];
     let numbers = numbers.map(|(name, number)| (name.to_string(), number));
     assert_eq!(limits_and_refusals(), BTreeMap::from(numbers));
+}
+
+#[test]
+fn refusals_of_the_header_are_0_to_8_each_once() {
+    let numbers: Vec<u32> = refusals().iter().map(|&(_, number)| number).collect();
+    assert_eq!(numbers, [0, 1, 2, 3, 4, 5, 6, 7, 8]);
 }
 
 /// The numbers of the header but those of its version.

@@ -11,7 +11,7 @@ use strip_tests::compare::{self, grouped};
 struct Answers {
     taken: usize,
     no: usize,
-    refused: [usize; 10],
+    refused: [usize; 9],
 }
 
 impl Answers {

@@ -12,7 +12,7 @@ use strip_tests::mutation::{changed, truncated};
 use strip_tests::random::Random;
 
 /// Counts of answers by the number of the refusal; 0 is none.
-type Answers = [usize; 10];
+type Answers = [usize; 9];
 
 /// Counts one more answer.
 fn count<T>(answers: &mut Answers, answer: &Result<T, Refusal>) {
@@ -40,7 +40,7 @@ fn check_answers(kind: &str, answers: &Answers, least: &[(usize, usize)]) {
 #[test]
 fn good_sheets_are_read_and_written_back() {
     let mut random = Random::new(171);
-    let mut answers = [0; 10];
+    let mut answers = Answers::default();
     let any = (0..20_000 * scale()).map(|_| generate::good(&mut random));
     for draft in any.chain((1..=64).map(generate::fullest)) {
         let bytes = draft.bytes();
@@ -76,7 +76,7 @@ fn near_list(random: &mut Random) -> Vec<u16> {
 #[test]
 fn number_lists_near_good_ones_are_written() {
     let mut random = Random::new(172);
-    let mut answers = [0; 10];
+    let mut answers = Answers::default();
     for _ in 0..40_000 * scale() {
         let numbers = near_list(&mut random);
         let written = compare::write(&Proved, &numbers);
@@ -91,7 +91,7 @@ fn number_lists_near_good_ones_are_written() {
 
 #[test]
 fn every_number_list_near_those_of_the_document_is_written() {
-    let mut answers = [0; 10];
+    let mut answers = Answers::default();
     let changes = |n: u16| vec![0, n.wrapping_add(1), n.wrapping_sub(1), 4096, 65535];
     for (_, draft) in document::sheets() {
         let numbers = draft.numbers();
@@ -109,7 +109,7 @@ fn every_number_list_near_those_of_the_document_is_written() {
 #[test]
 fn bytes_near_good_ones_are_read() {
     let mut random = Random::new(173);
-    let mut answers = [0; 10];
+    let mut answers = Answers::default();
     for _ in 0..40_000 * scale() {
         let mut numbers = near_list(&mut random);
         for n in &mut numbers {
@@ -137,7 +137,7 @@ fn bytes_near_good_ones_are_read() {
 #[test]
 fn slices_of_every_length() {
     let mut random = Random::new(174);
-    let mut answers = [0; 10];
+    let mut answers = Answers::default();
     for _ in 0..300 * scale() {
         let draft = generate::small(&mut random);
         let (numbers, bytes) = (draft.numbers(), draft.bytes());
@@ -156,7 +156,7 @@ fn slices_of_every_length() {
 #[test]
 fn inputs_and_slices_longer_than_any_sheet() {
     let mut random = Random::new(175);
-    let mut answers = [0; 10];
+    let mut answers = Answers::default();
     for layers in 1..=64 {
         let draft = generate::fullest(layers);
         for length in [1, 2, 2_055, 5_122, 70_000] {

@@ -120,10 +120,10 @@ fn each_refusal_and_each_word_is_stored() {
             .filter(|line| line.starts_with(answer))
             .count()
     };
-    for number in 1..=8 {
-        assert!(count(&format!("refused {number} at ")) > 0, "{number}");
-    }
-    assert_eq!(count("refused 9"), 0);
+    let refused = (1..=8).map(|number| count(&format!("refused {number} at ")));
+    let refused: Vec<usize> = refused.collect();
+    assert!(refused.iter().all(|&count| count > 0), "{refused:?}");
+    assert_eq!(refused.iter().sum::<usize>(), count("refused"));
     for answer in [
         "value ", "next ", "no form:", "no room:", "done ", "total ", "yes", "no",
     ] {

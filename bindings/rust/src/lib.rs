@@ -57,8 +57,6 @@ impl Refusal {
     pub const SLICE_SHORT: u32 = 7;
     /// No drawing exists.
     pub const NO_DRAWING: u32 = 8;
-    /// The total is above 16,777,215. No sheet has such a total.
-    pub const TOTAL_LARGE: u32 = 9;
 }
 
 /// The refusal as the program `place` prints it.

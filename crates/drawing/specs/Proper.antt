@@ -7,6 +7,10 @@ use Rattle.network.specs.Sums.{all}
 use Rattle.sheet.specs.Limits.{max-width, max-nodes, max-separation, max-edges, max-kind}
 use Rattle.drawing.specs.Sheet.{Pair, Edge, Sheet}
 
+-- the greatest total: 512 edges of 4,095 steps
+abbrev pub max-total : ℕ
+max-total = 2096640
+
 -- a maximum separation that is set is not below the minimum
 abbrev pub not-crossed : ℕ → ℕ → Bool
 not-crossed minimum zero = true

@@ -14,7 +14,7 @@ use Rattle.leb128.specs.Format.Result.{elements}
 use Rattle.drawing.specs.Sheet.{Sheet, sheet-of}
 use Rattle.drawing.specs.Drawing.{Drawing, LeftmostDrawing, total-length}
 use Rattle.drawing.specs.Certificate.{certificate-size, meets-rules, bound}
-use Rattle.engine.specs.Refusals.{no-drawing, total-passes, total-limit}
+use Rattle.engine.specs.Refusals.{no-drawing}
 use Rattle.engine.specs.declared.Answer.{Answer}
 use Rattle.engine.specs.declared.Answer.the-variants as answer
 
@@ -36,13 +36,11 @@ pub record Room (S : Sheet) (places list : ℕ) : Type 0 where
 abbrev pub NoDrawing : Sheet → Type 0
 NoDrawing S = (q : List ℕ) → Drawing S q → ⊥
 
--- why a good sheet is refused, by the refusal's number: a slice is too short; no drawing exists; the least total passes
--- the limit
+-- why a good sheet is refused, by the refusal's number: a slice is too short; no drawing exists
 pub data Refuses (S : Sheet) (places list : ℕ) : ℕ → Type 0 where
   few-places : places < S .nodes → Refuses S places list slice-short
   few-numbers : list < certificate-size S → Refuses S places list slice-short
   none : Room S places list → NoDrawing S → Refuses S places list no-drawing
-  passes : (p : List ℕ) → Room S places list → LeftmostDrawing S p → total-limit < total-length S p → Refuses S places list total-passes
 
 -- the leftmost least drawing is in front of the places, with its total; the list in front of the list shows that no total is
 -- smaller; elements behind are as they were
@@ -51,7 +49,6 @@ pub record Returns (S : Sheet) (p₀ : List ℕ) (y₀ : List ℤ) (p : List ℕ
   pub leftmost : LeftmostDrawing S (take (S .nodes) p)
   pub places-behind : drop (S .nodes) p ≡ drop (S .nodes) p₀
   pub total-is : total ≡ total-length S (take (S .nodes) p)
-  pub total-in : total ≤ total-limit
   pub list-size : length y ≡ length y₀
   pub list-behind : drop (certificate-size S) y ≡ drop (certificate-size S) y₀
   pub rules : T (meets-rules S (take (certificate-size S) y))

@@ -8,14 +8,6 @@ use Rattle.leftmost.specs.Solutions.{Finding}
 abbrev pub no-drawing : ℕ
 no-drawing = 8
 
--- the least total passes its limit
-abbrev pub total-passes : ℕ
-total-passes = 9
-
--- the limit of a total
-abbrev pub total-limit : ℕ
-total-limit = 16777215
-
 -- the refusal that a finding about a sheet's arcs gives, 0 where it gives none: no feasible potentials, no drawing. (A sheet's
 -- arcs are never malformed.)
 unfoldable pub finding-refusal : Finding → ℕ

@@ -1,5 +1,6 @@
 pub mod Determined
 pub mod Accepted
 pub mod Refusals
+pub mod Totals
 pub mod Table
 pub mod Assigned

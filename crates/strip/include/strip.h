@@ -42,7 +42,7 @@ extern "C" {
 /* The stack that any of the functions needs, in bytes. strip_draw needs the most. */
 #define STRIP_STACK_BYTES 53248
 
-/* The values of strip_refusal(). */
+/* The values of strip_refusal(). 9 is not used: later numbers begin at 10. */
 enum {
     /* The call succeeded. */
     STRIP_OK = 0,
@@ -61,9 +61,7 @@ enum {
     /* A slice is too short for what is to be read or written there. */
     STRIP_SLICE_SHORT = 7,
     /* No drawing exists. */
-    STRIP_NO_DRAWING = 8,
-    /* The total is above 16,777,215. No sheet has such a total. */
-    STRIP_TOTAL_LARGE = 9
+    STRIP_NO_DRAWING = 8
 };
 
 /* Reads the number list of a sheet into the front of numbers. The value is the count of numbers.

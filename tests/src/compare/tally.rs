@@ -27,7 +27,7 @@ pub struct Tally {
     /// Drawn with a total above 0.
     pub long: usize,
     /// By the number of the refusal.
-    pub refused: [usize; 10],
+    pub refused: [usize; 9],
     /// What the checkers said to drawings and near misses.
     pub yes: usize,
     pub no: usize,

@@ -10,6 +10,10 @@ use std::sync::Once;
 #[allow(dead_code)]
 pub const LIBRARY: [&str; 2] = ["-Icrates/strip/include", "target/staticlib/libstrip.a"];
 
+/// The header, from the root of the repository.
+#[allow(dead_code)]
+pub const HEADER: &str = "crates/strip/include/strip.h";
+
 /// The root of the repository.
 pub fn root() -> PathBuf {
     Path::new(env!("CARGO_MANIFEST_DIR")).join("..")
@@ -45,6 +49,24 @@ pub fn output(command: &mut Command) -> String {
         String::from_utf8_lossy(&output.stderr)
     );
     printed.into_owned()
+}
+
+/// The refusals in the header's enum, in its order, by name without `STRIP_` and number; 0 is none.
+#[allow(dead_code)]
+pub fn refusals() -> Vec<(String, u32)> {
+    let header = fs::read_to_string(root().join(HEADER)).expect("the header");
+    let enums: Vec<&str> = header.split("enum {").skip(1).collect();
+    assert_eq!(enums.len(), 1, "the header has one enum");
+    let (inside, _) = enums[0].split_once("};").expect("the end of the enum");
+    // all that is left without the comments is names with their numbers
+    let code = |part: &str| part.split("/*").next().map(str::to_owned);
+    let code: String = inside.split("*/").filter_map(code).collect();
+    let refusal = |item: &str| {
+        let (name, number) = item.trim().strip_prefix("STRIP_")?.split_once(" = ")?;
+        Some((name.to_string(), number.parse().ok()?))
+    };
+    let refusal = |item| refusal(item).unwrap_or_else(|| panic!("no name with its number: {item}"));
+    code.split(',').map(refusal).collect()
 }
 
 /// A command that compiles and allows no warning.

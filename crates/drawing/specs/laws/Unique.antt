@@ -9,7 +9,7 @@ use Rattle.network.specs.Sums.{sumℕ}
 use Rattle.network.specs.laws.LeftmostUnique.{leftmost-one}
 use Rattle.sheet.specs.Limits.{max-width, max-edges}
 use Rattle.drawing.specs.Sheet.{Edge, Sheet}
-use Rattle.drawing.specs.Proper.{Proper}
+use Rattle.drawing.specs.Proper.{max-total, Proper}
 use Rattle.drawing.specs.Drawing.{Drawing, edge-length, total-length, LeftmostDrawing}
 use Rattle.drawing.specs.laws.SameDrawings.{inside-at}
 
@@ -30,6 +30,10 @@ total-le S p d =
     sum-le (edge-length p) (S .width)
     (λ e. omega (arith, inside-at (S .width) p (d .inside) (e .upper), inside-at (S .width) p (d .inside) (e .lower))) (S .edges)
 
--- so no total of a proper sheet is above the greatest number of edges × the greatest width: refusal 9 never comes
+-- so no total of a proper sheet is above the greatest number of edges × the greatest width
 pub total-small : (S : Sheet) (p : List ℕ) → Proper S → Drawing S p → total-length S p ≤ max-edges * max-width
 total-small S p proper d = le-trans (total-le S p d) (mul-le-mul (proper .few) (proper .width))
+
+-- which is 2,096,640
+pub total-most : (S : Sheet) (p : List ℕ) → Proper S → Drawing S p → total-length S p ≤ max-total
+total-most S p proper d = omega (arith, total-small S p proper d)

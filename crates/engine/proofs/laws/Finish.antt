@@ -27,7 +27,6 @@ use Rattle.drawing.specs.Arcs.{network}
 use Rattle.drawing.specs.laws.Hanging.{solution-drawing}
 use Rattle.drawing.specs.laws.SameDrawings.{inside-at, same-total, leftmost-drawing}
 use Rattle.drawing.specs.laws.SameRules.{same-rules, same-bound}
-use Rattle.drawing.specs.laws.Unique.{total-small}
 use Rattle.circulation.specs.Nodes.{node-stride, potential-zero, potentials}
 use Rattle.circulation.specs.Solutions.{flows-of, potentials-of}
 use Rattle.circulation.specs.laws.Columns.{column-at}
@@ -180,7 +179,6 @@ module _ {a : List ℕ} {c : Counts} (h : Holds a c) (flows nodes : List ℕ) (f
           leftmost = subst (LeftmostDrawing S) (sym front) drawing-is;
           places-behind = ap (drop (S .nodes)) places-are ∙ drop-at p (drop (S .nodes) p₀) (S .nodes) (p-size ∙ h .nodes-are);
           total-is = t ∙ ap (total-length S) (sym front);
-          total-in = omega (arith, total-small S p (proper h) (drawing-is .is-least .candidate));
           list-size =
               ap length list-is
               ∙ length-append y (drop (certificate-size S) y₀)

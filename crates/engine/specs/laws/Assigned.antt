@@ -22,9 +22,13 @@ use Rattle.drawing.specs.laws.LeastAssignment.{drawing-least-assignment}
 use Rattle.engine.specs.Refusals.{no-drawing}
 use Rattle.engine.specs.Draws.{Drawn, Room, Refuses, DrawsSheet, Draws}
 use Rattle.engine.specs.laws.Refusals.{refused-none}
-use Rattle.engine.specs.Draws.Refuses.{few-places, few-numbers, none, passes}
+use Rattle.engine.specs.Draws.Refuses.{few-places, few-numbers, none}
 
 module _ (bytes numbers : List ℕ) (read : read-sheet bytes ≡ elements numbers) (p₀ : List ℕ) (y₀ : List ℤ) (p : List ℕ) (y : List ℤ) where
+  -- the sheet is within the limits
+  proper : Proper (sheet-of numbers)
+  proper = accepts-proper numbers (read-accepted bytes numbers read)
+
   -- where 8 is answered, no assignment exists
   pub none-assigned : (r : Refusal) → r .number ≡ no-drawing → Draws (read-sheet bytes) p₀ y₀ p y (Reply.refused r)
       → (x : List ℤ) → Assignment (sheet-of numbers) x → ⊥
@@ -37,8 +41,7 @@ module _ (bytes numbers : List ℕ) (read : read-sheet bytes ≡ elements number
       go : {n : ℕ} → Refuses (sheet-of numbers) (length p₀) (length y₀) n → n ≡ no-drawing → ⊥
       go (few-places h) e = omega arith
       go (few-numbers h) e = omega arith
-      go (none k h) e = h (shifted x) (shifted-drawing (sheet-of numbers) (accepts-proper numbers (read-accepted bytes numbers read)) x a)
-      go (passes q k b h) e = omega arith
+      go (none k h) e = h (shifted x) (shifted-drawing (sheet-of numbers) proper x a)
 
   -- what is drawn is a least assignment
   pub drawn-assigned : (total : ℕ) → Draws (read-sheet bytes) p₀ y₀ p y (Reply.value total)
@@ -47,8 +50,7 @@ module _ (bytes numbers : List ℕ) (read : read-sheet bytes ≡ elements number
   drawn-assigned total d =
       let meets : DrawsSheet (sheet-of numbers) p₀ y₀ p y (Reply.value total) =
       subst (λ (z : Result). Draws z p₀ y₀ p y (Reply.value total)) read d in
-      drawing-least-assignment (sheet-of numbers) (accepts-proper numbers (read-accepted bytes numbers read))
-      (take (sheet-of numbers .nodes) p) (meets .leftmost .is-least)
+      drawing-least-assignment (sheet-of numbers) proper (take (sheet-of numbers .nodes) p) (meets .leftmost .is-least)
 
   -- where an assignment exists and the slices are long enough, a drawing is returned
   pub assigned-drawn : (x : List ℤ) → Assignment (sheet-of numbers) x → Room (sheet-of numbers) (length p₀) (length y₀)
@@ -56,8 +58,7 @@ module _ (bytes numbers : List ℕ) (read : read-sheet bytes ≡ elements number
   unfolding Draws
   assigned-drawn x a room (Reply.value total) g = (total, refl)
   assigned-drawn x a room (Reply.refused r) g =
-      let proper : Proper (sheet-of numbers) = accepts-proper numbers (read-accepted bytes numbers read) in
       let meets : DrawsSheet (sheet-of numbers) p₀ y₀ p y (Reply.refused r) =
       subst (λ (z : Result). Draws z p₀ y₀ p y (Reply.refused r)) read g in
-      absurd (refused-none (sheet-of numbers) (length p₀) (length y₀) proper room (meets .0) .1 (shifted x)
+      absurd (refused-none (sheet-of numbers) (length p₀) (length y₀) room (meets .0) .1 (shifted x)
       (shifted-drawing (sheet-of numbers) proper x a))

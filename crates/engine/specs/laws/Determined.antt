@@ -14,7 +14,7 @@ use Rattle.drawing.specs.Drawing.{total-length}
 use Rattle.drawing.specs.laws.Unique.{leftmost-unique}
 use Rattle.engine.specs.Draws.{Drawn, Refuses, Returns, DrawsSheet, Draws}
 use Rattle.engine.specs.Answers.{Same}
-use Rattle.engine.specs.Draws.Refuses.{few-places, few-numbers, none, passes}
+use Rattle.engine.specs.Draws.Refuses.{few-places, few-numbers, none}
 
 module _ (S : Sheet) (places list : ℕ) where
   -- one reason of refusal excludes the others
@@ -22,19 +22,12 @@ module _ (S : Sheet) (places list : ℕ) where
   one-refusal (few-places h) (few-places k) = omega arith
   one-refusal (few-places h) (few-numbers k) = omega arith
   one-refusal (few-places h) (none r k) = absurd (omega (arith, r .nodes))
-  one-refusal (few-places h) (passes d r b k) = absurd (omega (arith, r .nodes))
   one-refusal (few-numbers h) (few-places k) = omega arith
   one-refusal (few-numbers h) (few-numbers k) = omega arith
   one-refusal (few-numbers h) (none r k) = absurd (omega (arith, r .numbers))
-  one-refusal (few-numbers h) (passes d r b k) = absurd (omega (arith, r .numbers))
   one-refusal (none r h) (few-places k) = absurd (omega (arith, r .nodes))
   one-refusal (none r h) (few-numbers k) = absurd (omega (arith, r .numbers))
   one-refusal (none r h) (none t k) = omega arith
-  one-refusal (none r h) (passes d t b k) = absurd (h d (b .is-least .candidate))
-  one-refusal (passes d r b h) (few-places k) = absurd (omega (arith, r .nodes))
-  one-refusal (passes d r b h) (few-numbers k) = absurd (omega (arith, r .numbers))
-  one-refusal (passes d r b h) (none t k) = absurd (k d (b .is-least .candidate))
-  one-refusal (passes d r b h) (passes e t c k) = omega arith
 
 module _ (S : Sheet) (p₀ : List ℕ) (y₀ : List ℤ) where
   -- what is refused is not drawn
@@ -42,8 +35,6 @@ module _ (S : Sheet) (p₀ : List ℕ) (y₀ : List ℤ) where
   refused-not (few-places h) g = omega (arith, g .room .nodes)
   refused-not (few-numbers h) g = omega (arith, g .room .numbers)
   refused-not (none r h) g = h _ (g .leftmost .is-least .candidate)
-  refused-not {p = p} (passes d r b h) g =
-      omega (arith, g .total-is, g .total-in, ap (total-length S) (leftmost-unique S d (take (S .nodes) p) b (g .leftmost)))
 
   -- two drawings are one
   one-drawing : {s t : ℕ} {p q : List ℕ} {y z : List ℤ} → Returns S p₀ y₀ p y s → Returns S p₀ y₀ q z t

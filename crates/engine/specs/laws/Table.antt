@@ -14,15 +14,12 @@ use Rattle.leb128.specs.Reply.{Reply}
 use Rattle.leb128.specs.Format.{Result}
 use Rattle.leb128.specs.Format.Result.{elements}
 use Rattle.sheet.specs.Reading.{read-sheet}
-use Rattle.sheet.specs.laws.Sheets.{read-accepted}
 use Rattle.drawing.specs.Sheet.{Sheet, sheet-of}
-use Rattle.drawing.specs.Proper.{Proper}
 use Rattle.drawing.specs.Drawing.{LeftmostDrawing, total-length}
 use Rattle.drawing.specs.Certificate.{certificate-size}
 use Rattle.drawing.specs.Judged.{judged}
 use Rattle.drawing.specs.Rows.{Outcome, Says, Row, RowHolds, Every}
 use Rattle.drawing.specs.Table.{table}
-use Rattle.drawing.specs.laws.Proper.{accepts-proper}
 use Rattle.drawing.specs.laws.Unique.{leftmost-unique}
 use Rattle.drawing.specs.laws.Table.{sheets}
 use Rattle.checker.specs.Verdict.{check-answer}
@@ -33,22 +30,21 @@ use Rattle.engine.specs.laws.Refusals.{refused-none}
 use Rattle.engine.specs.Answers.{EveryDrawing, Answered, EveryAnswered}
 
 -- the answer for a sheet whose leftmost least drawing is known
-drawn-answer : (S : Sheet) (p₀ : List ℕ) (y₀ : List ℤ) (p : List ℕ) (y : List ℤ) (coordinates : List ℕ) (total : ℕ) → Proper S
-    → Room S (length p₀) (length y₀)
-    → LeftmostDrawing S coordinates → total-length S coordinates ≡ total → (d : Drawn) → DrawsSheet S p₀ y₀ p y d
+drawn-answer : (S : Sheet) (p₀ : List ℕ) (y₀ : List ℤ) (p : List ℕ) (y : List ℤ) (coordinates : List ℕ) (total : ℕ)
+    → Room S (length p₀) (length y₀) → LeftmostDrawing S coordinates → total-length S coordinates ≡ total → (d : Drawn) → DrawsSheet S p₀ y₀ p y d
     → (d ≡ Reply.value total) × (take (S .nodes) p ≡ coordinates)
-drawn-answer S p₀ y₀ p y coordinates total proper room l e (Reply.value t) g =
+drawn-answer S p₀ y₀ p y coordinates total room l e (Reply.value t) g =
     let same : take (S .nodes) p ≡ coordinates = leftmost-unique S (take (S .nodes) p) coordinates (g .leftmost) l in
     (ap Reply.value (g .total-is ∙ ap (total-length S) same ∙ e), same)
-drawn-answer S p₀ y₀ p y coordinates total proper room l e (Reply.refused r) g =
-    absurd (refused-none S (length p₀) (length y₀) proper room (g .0) .1 coordinates (l .is-least .candidate))
+drawn-answer S p₀ y₀ p y coordinates total room l e (Reply.refused r) g =
+    absurd (refused-none S (length p₀) (length y₀) room (g .0) .1 coordinates (l .is-least .candidate))
 
 -- the answer for a sheet without a drawing
-none-answer : (S : Sheet) (p₀ : List ℕ) (y₀ : List ℤ) (p : List ℕ) (y : List ℤ) → Proper S → Room S (length p₀) (length y₀)
+none-answer : (S : Sheet) (p₀ : List ℕ) (y₀ : List ℤ) (p : List ℕ) (y : List ℤ) → Room S (length p₀) (length y₀)
     → NoDrawing S → (d : Drawn) → DrawsSheet S p₀ y₀ p y d → d ≡ Reply.refused (refusal no-drawing 0)
-none-answer S p₀ y₀ p y proper room n (Reply.value t) g = absurd (n (take (S .nodes) p) (g .leftmost .is-least .candidate))
-none-answer S p₀ y₀ p y proper room n (Reply.refused r) g =
-    ap₂ (λ (k o : ℕ). Reply.refused (record { number = k; offset = o })) (refused-none S (length p₀) (length y₀) proper room (g .0) .0)
+none-answer S p₀ y₀ p y room n (Reply.value t) g = absurd (n (take (S .nodes) p) (g .leftmost .is-least .candidate))
+none-answer S p₀ y₀ p y room n (Reply.refused r) g =
+    ap₂ (λ (k o : ℕ). Reply.refused (record { number = k; offset = o })) (refused-none S (length p₀) (length y₀) room (g .0) .0)
     (g .1)
 
 -- the checker's word on places and a list of just the needed lengths
@@ -70,9 +66,6 @@ row-answered r row = go (r .outcome) (row .says)
     S : Sheet
     S = sheet-of (row .numbers)
 
-    proper : Proper S
-    proper = accepts-proper (row .numbers) (read-accepted (r .bytes) (row .numbers) (row .read))
-
     every : (P : List ℕ → Drawn → Type 0)
         → ((p₀ : List ℕ) (y₀ : List ℤ) (p : List ℕ) (y : List ℤ) (d : Drawn) → Room S (length p₀) (length y₀) → DrawsSheet S p₀ y₀ p y d
         → P (take (S .nodes) p) d)
@@ -87,13 +80,13 @@ row-answered r row = go (r .outcome) (row .says)
     go (Outcome.drawn total coordinates list) s = record {
       drawing =
           every (λ places d. (d ≡ Reply.value total) × (places ≡ coordinates))
-          (λ p₀ y₀ p y d room g. drawn-answer S p₀ y₀ p y coordinates total proper room (s .leftmost) (s .sum) d g);
+          (λ p₀ y₀ p y d room g. drawn-answer S p₀ y₀ p y coordinates total room (s .leftmost) (s .sum) d g);
       checked =
           check-word (r .bytes) (row .numbers) coordinates list true (row .read) (s .leftmost .is-least .candidate .size) (s .list-size)
           (s .accepted);
     }
     go (Outcome.undrawable list) s =
-        every (λ places d. d ≡ Reply.refused (refusal no-drawing 0)) (λ p₀ y₀ p y d room g. none-answer S p₀ y₀ p y proper room s d g)
+        every (λ places d. d ≡ Reply.refused (refusal no-drawing 0)) (λ p₀ y₀ p y d room g. none-answer S p₀ y₀ p y room s d g)
     go (Outcome.rejected coordinates list) s =
         check-word (r .bytes) (row .numbers) coordinates list false (row .read) (s .size) (s .list-size) (s .rejected)
 

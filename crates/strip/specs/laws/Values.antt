@@ -19,11 +19,11 @@ use Rattle.sheet.specs.Reading.{read-sheet, write-sheet}
 use Rattle.sheet.specs.laws.Sheets.{read-accepted, most-numbers, most-bytes, read-written, writer-refusals, writer-given}
 use Rattle.sheet.specs.laws.Sheets.{reader-refusals, reader-offsets, writer-offsets}
 use Rattle.sheet.specs.Refusals.{FormatRefusal}
-use Rattle.drawing.specs.Sheet.{Sheet, sheet-of}
 use Rattle.checker.specs.Verdict.{check-answer}
 use Rattle.checker.specs.laws.Refusals.{check-refusals}
-use Rattle.engine.specs.Draws.{Drawn, Refuses, DrawsSheet, Draws}
-use Rattle.engine.specs.Draws.Refuses.{few-places, few-numbers, none, passes}
+use Rattle.engine.specs.Draws.{Drawn, Draws}
+use Rattle.engine.specs.laws.Refusals.{draw-refusals}
+use Rattle.engine.specs.laws.Totals.{drawn-total}
 use Rattle.strip.specs.Words.{unit}
 use Rattle.strip.specs.HeldWords.{HeldRefusal, HeldOutcome, HeldDrawn, HeldJudgement}
 
@@ -68,27 +68,12 @@ writing-held numbers room = go (write-sheet numbers) refl
         refused-held room r (given-held r (writer-given (writer-refusals numbers room r (rw e (refused-answer room r))))
         (omega (arith, writer-offsets numbers r e)))
 
--- of a good sheet, drawn
-sheet-held : (S : Sheet) (p₀ : List ℕ) (y₀ : List ℤ) (p : List ℕ) (y : List ℤ) (d : Drawn) → DrawsSheet S p₀ y₀ p y d
-    → HeldDrawn d
-sheet-held S p₀ y₀ p y (Reply.value total) h = omega (arith, h .total-in)
-sheet-held S p₀ y₀ p y (Reply.refused r) h = record { numbered = numbered (h .0); offset-in = omega (arith, h .1) }
-  where
-    numbered : {n : ℕ} → Refuses S (length p₀) (length y₀) n → 0 < n
-    numbered (few-places k) = omega arith
-    numbered (few-numbers k) = omega arith
-    numbered (none k l) = omega arith
-    numbered (passes q k l m) = omega arith
-
 -- of drawing
 pub drawing-held : (bytes p₀ : List ℕ) (y₀ : List ℤ) (p : List ℕ) (y : List ℤ) (d : Drawn)
     → Draws (read-sheet bytes) p₀ y₀ p y d → HeldDrawn d
-unfolding Draws
-drawing-held bytes p₀ y₀ p y d h = go (read-sheet bytes) refl h
-  where
-    go : (read : Result) → read-sheet bytes ≡ read → Draws read p₀ y₀ p y d → HeldDrawn d
-    go (elements numbers) e h = sheet-held (sheet-of numbers) p₀ y₀ p y d h
-    go (Result.refused r) e h = rw (h .0) (given-held r (reader-refusals bytes r e) (reader-offsets bytes r e))
+drawing-held bytes p₀ y₀ p y (Reply.value total) h = omega (arith, drawn-total bytes p₀ y₀ p y total h)
+drawing-held bytes p₀ y₀ p y (Reply.refused r) h =
+    let g = draw-refusals bytes p₀ y₀ p y r h in record { numbered = g .number-in .0; offset-in = omega (arith, g .offset-in) }
 
 -- of checking
 pub checking-held : (bytes places : List ℕ) (list : List ℤ) → HeldJudgement (check-answer (read-sheet bytes) places list)
