@@ -1,5 +1,5 @@
-//! Sheets that just have a drawing, and others that just have none, drawn by the library and the
-//! second implementation.
+//! Sheets that just have a drawing, others that just have none, and the one with the greatest total,
+//! drawn by the library and the second implementation.
 
 mod library;
 
@@ -111,6 +111,13 @@ fn straight_edges_that_cross() {
     tally.print("crossing straight edges");
     assert_eq!(tally.undrawn(), tally.sheets);
     assert!(tally.undrawn() > 900);
+}
+
+#[test]
+fn greatest_total_of_any_sheet() {
+    // both draw it alike, and both checkers say yes to both lists
+    let outcome = compare::sheet(&Proved, &sizes::longest_edges().bytes());
+    assert_eq!(outcome.drawn, Ok((2_096_640, vec![0, 4095, 0, 4095])));
 }
 
 #[test]

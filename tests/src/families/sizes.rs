@@ -1,9 +1,10 @@
-//! Random sheets of medium and of full size, and with many parallel edges; all have a drawing.
+//! Random sheets of medium and of full size, and with many parallel edges, and the one with the longest
+//! edges; all have a drawing.
 
 use crate::draft::Draft;
 use crate::planted::{planted, Plan};
 use crate::random::Random;
-use second::sheet::{EDGE_LIMIT, NODE_LIMIT};
+use second::sheet::{EDGE_LIMIT, NODE_LIMIT, PLAIN, WIDTH_LIMIT};
 
 /// One of some numbers.
 fn one_of(random: &mut Random, numbers: &[u16]) -> u16 {
@@ -46,4 +47,16 @@ pub fn parallel(random: &mut Random) -> Draft {
     let edges = one_of(random, &[30, 60, 120, EDGE_LIMIT]);
     let plan = any_plan(random, layers, nodes, edges);
     planted(random, &plan)
+}
+
+/// A sheet with the greatest total of all: two layers that fill the greatest width, and all edges from
+/// the left to the right.
+pub fn longest_edges() -> Draft {
+    let mut draft = Draft::new(WIDTH_LIMIT, &[2, 2])
+        .separation(1, 1, WIDTH_LIMIT, 0)
+        .separation(2, 1, WIDTH_LIMIT, WIDTH_LIMIT);
+    for _ in 0..EDGE_LIMIT {
+        draft = draft.edge(1, 1, 2, PLAIN);
+    }
+    draft
 }

@@ -3,7 +3,8 @@
 use super::Group;
 use crate::draft::Draft;
 use crate::families::conflicts::spiral;
-use second::sheet::{EDGE_LIMIT, LAYER_LIMIT, PLAIN, STRAIGHT, WIDTH_LIMIT};
+use crate::families::sizes::longest_edges;
+use second::sheet::{LAYER_LIMIT, STRAIGHT, WIDTH_LIMIT};
 
 /// One sheet for each extreme, and those next to it.
 pub fn sheets() -> Group {
@@ -21,17 +22,6 @@ pub fn sheets() -> Group {
     group.note("64 nodes in one layer, width one less: no");
     group.draw_exactly(&Draft::new(62, &[64]));
     group
-}
-
-/// Two layers that fill the greatest width, with all edges from the left to the right.
-fn longest_edges() -> Draft {
-    let mut draft = Draft::new(WIDTH_LIMIT, &[2, 2])
-        .separation(1, 1, WIDTH_LIMIT, 0)
-        .separation(2, 1, WIDTH_LIMIT, WIDTH_LIMIT);
-    for _ in 0..EDGE_LIMIT {
-        draft = draft.edge(1, 1, 2, PLAIN);
-    }
-    draft
 }
 
 /// A straight chain whose last layer has another node far to the left.
