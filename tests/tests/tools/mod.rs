@@ -20,6 +20,7 @@ pub fn root() -> PathBuf {
 }
 
 /// An empty folder for a test; names differ between tests.
+#[allow(dead_code)]
 pub fn folder(name: &str) -> PathBuf {
     let folder = Path::new(env!("CARGO_TARGET_TMPDIR")).join(name);
     if folder.exists() {
