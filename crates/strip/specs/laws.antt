@@ -1,3 +1,4 @@
 pub mod CheckedLeast
+pub mod Refusals
 pub mod ReadBack
 pub mod Values
