@@ -20,7 +20,8 @@ not-crossed minimum (suc maximum) = leb minimum (suc maximum)
 abbrev pub proper-pair : ℕ → Pair → Bool
 proper-pair n x =
     ltb (suc (x .left)) n
-    && ((leb 1 (x .minimum) && leb (x .minimum) max-separation) && (leb (x .maximum) max-separation && not-crossed (x .minimum) (x .maximum)))
+    && ((leb 1 (x .minimum) && leb (x .minimum) max-separation)
+    && (leb (x .maximum) max-separation && not-crossed (x .minimum) (x .maximum)))
 
 -- the limits of an edge between n nodes
 abbrev pub proper-edge : ℕ → Edge → Bool

@@ -40,7 +40,8 @@ module _ (S : Sheet) (p₀ : List ℕ) (y₀ : List ℤ) where
   one-drawing : {s t : ℕ} {p q : List ℕ} {y z : List ℤ} → Returns S p₀ y₀ p y s → Returns S p₀ y₀ q z t
       → Same p q (Reply.value s) (Reply.value t)
   one-drawing {p = p} {q = q} g h =
-      let same : take (S .nodes) p ≡ take (S .nodes) q = leftmost-unique S (take (S .nodes) p) (take (S .nodes) q) (g .leftmost) (h .leftmost) in
+      let same : take (S .nodes) p ≡ take (S .nodes) q =
+      leftmost-unique S (take (S .nodes) p) (take (S .nodes) q) (g .leftmost) (h .leftmost) in
       record {
         answer = ap Reply.value (g .total-is ∙ ap (total-length S) same ∙ sym (h .total-is));
         places =

@@ -31,7 +31,8 @@ use Rattle.engine.specs.Answers.{EveryDrawing, Answered, EveryAnswered}
 
 -- the answer for a sheet whose leftmost least drawing is known
 drawn-answer : (S : Sheet) (p₀ : List ℕ) (y₀ : List ℤ) (p : List ℕ) (y : List ℤ) (coordinates : List ℕ) (total : ℕ)
-    → Room S (length p₀) (length y₀) → LeftmostDrawing S coordinates → total-length S coordinates ≡ total → (d : Drawn) → DrawsSheet S p₀ y₀ p y d
+    → Room S (length p₀) (length y₀) → LeftmostDrawing S coordinates → total-length S coordinates ≡ total → (d : Drawn)
+    → DrawsSheet S p₀ y₀ p y d
     → (d ≡ Reply.value total) × (take (S .nodes) p ≡ coordinates)
 drawn-answer S p₀ y₀ p y coordinates total room l e (Reply.value t) g =
     let same : take (S .nodes) p ≡ coordinates = leftmost-unique S (take (S .nodes) p) coordinates (g .leftmost) l in
