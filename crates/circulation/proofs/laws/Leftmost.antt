@@ -1,8 +1,8 @@
 -- After a search from the ground that reached every node the potentials are the leftmost of least cost: every node is held,
 -- over the arc by which it was reached.
-use Rattle.network.specs.laws.Tests.{fails}
+use Rattle.network.specs.laws.Tests.{fails, Listed}
 use Rattle.network.specs.Net.{at, Net, arcs, tail, head, low, high, asks, stands, meant}
-use Rattle.network.specs.laws.Indexed.{upto-length, upto-ext}
+use Rattle.network.specs.laws.Indexed.{upto-length, upto-ext, listed-upto}
 use Rattle.network.specs.laws.PackedLegal.{less-parts}
 use Rattle.circulation.specs.Nodes.{potentials, ranks, parents, rooms, size, potential-zero}
 use Rattle.circulation.specs.inside.Steps.{Flooded}
@@ -14,7 +14,7 @@ use Rattle.network.specs.laws.Integers.{eqZ→eq}
 use Rattle.network.specs.Network.{LeftmostLeast, unlimited, limit, reached, past-kink}
 use Rattle.network.specs.Flows.{Flow, flows, rules, complementary}
 use Rattle.network.specs.laws.Residuals.{residuals}
-use Rattle.network.specs.laws.Held.{Among, Held, among-upto, head-holds, tail-holds, held-leftmost}
+use Rattle.network.specs.laws.Held.{Held, head-holds, tail-holds, held-leftmost}
 use Rattle.network.specs.laws.Held.Held.{by-ground}
 use Rattle.circulation.specs.inside.Slackness.{Slack, Balanced}
 use Rattle.network.specs.WellFormed.{WellFormed}
@@ -72,9 +72,9 @@ module _ (N : Net) (n : ℕ) (p x order via room : ℕ → ℕ) (wf : WellFormed
   relative-size = upto-length (n - 1) (λ v. pos (p v) -ℤ pos (p (n - 1)))
 
   -- the flow on arc i is one of the network's
-  on-there : (i : ℕ) → i < arcs N → Among (on i) (flows (meant N n .arcs) (flows-of (arcs N) x))
+  on-there : (i : ℕ) → i < arcs N → Listed (on i) (flows (meant N n .arcs) (flows-of (arcs N) x))
   on-there i l =
-      rw (flows-by-index (arcs N) (arc-at (N .list)) (λ i. pos (x i) -ℤ pos flow-zero)) (among-upto (arcs N) on i l)
+      rw (flows-by-index (arcs N) (arc-at (N .list)) (λ i. pos (x i) -ℤ pos flow-zero)) (listed-upto (arcs N) on i l)
 
   -- an arc of the tree is at its kink
   at-kink : (i : ℕ) → i < arcs N → asks N p i ≡ stands N p i → past-kink (relative n p) (arc-at (N .list) i) ≡ pos 0

@@ -9,10 +9,9 @@ use lib.IntN.{ℤ, pos, negℤ}
 use lib.ListN.{length, getD, drop}
 use lib.Signed.{_≤ℤ_, leZ-yes}
 use Rattle.leb128.specs.laws.Cases.{lt-or-le, eq-or-ne}
-use Rattle.network.specs.Sums.{all}
 use Rattle.network.specs.Network.{Arc, Feasible, LeftmostLeast, integers, upper-bound}
 use Rattle.network.specs.Integers.{up}
-use Rattle.network.specs.laws.Tests.{and-left}
+use Rattle.network.specs.laws.Tests.{listed-here}
 use Rattle.network.specs.laws.Models.{leftmost-models}
 use Rattle.network.specs.laws.Hanging.{Hook, Hangs, hook-first, hook-second, natural-potentials}
 use Rattle.sheet.specs.Layout.{layers-at, first-layer-at, nodes-at, separations-at, separation-stride, minimum-at, maximum-at, next-layer}
@@ -31,7 +30,7 @@ pair-hook : (nodes : ℕ) (x : Pair) → Hook nodes (separation-arcs x) (suc (x 
 pair-hook nodes x =
     record {
       arc = minimum-arc x;
-      listed = λ t a. and-left (t (minimum-arc x)) (all t (maximum-arc (x .maximum) (x .left) ∷ [])) a;
+      listed = listed-here (minimum-arc x) (maximum-arc (x .maximum) (x .left) ∷ []);
       tail-is = refl;
       hard = refl;
       not-right = minus-le (x .minimum);
@@ -58,10 +57,8 @@ first-hook width ground l =
     record {
       arc = upper-bound (l .first) ground (pos 0);
       listed =
-          λ t a. and-left (t (upper-bound (l .first) ground (pos 0)))
-          (all t
-          (flatMap separation-arcs (l .pairs) ++ upper-bound ground (l .first + length (l .pairs)) (pos width) ∷ []))
-          a;
+          listed-here (upper-bound (l .first) ground (pos 0))
+          (flatMap separation-arcs (l .pairs) ++ upper-bound ground (l .first + length (l .pairs)) (pos width) ∷ []);
       tail-is = refl;
       hard = refl;
       not-right = leZ-yes tt;

@@ -63,7 +63,7 @@ module _ (N : Net) (n : ℕ) (hangs : Hangs (meant N n)) where
       let k : Hook (n - 1) (meant N n .arcs) v = hangs .hook v l in
       some-index (λ i. hooked (n - 1) v (arc-at (N .list) i)) (arcs N)
       (λ none. not-both (hooked (n - 1) v (k .arc)) (hook-hooked (n - 1) v (meant N n .arcs) k)
-      (k .listed (λ x. not (hooked (n - 1) v x)) (all-upto (λ x. not (hooked (n - 1) v x)) (arcs N) (arc-at (N .list)) none)))
+      (k .listed .passes (λ x. not (hooked (n - 1) v x)) (all-upto (λ x. not (hooked (n - 1) v x)) (arcs N) (arc-at (N .list)) none)))
 
   -- it hangs by it, where the arc's head is a node
   hangs-by : (v i : ℕ) → head N i < n → T (hooked (n - 1) v (arc-at (N .list) i)) → HangsBy (N .list) (n - 1) v i

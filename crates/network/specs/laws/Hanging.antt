@@ -2,7 +2,6 @@
 -- negative: by induction on the node.
 use Prim.Native.Nat.{ℕ, zero, suc, _+_, _≤_, _<_}
 use mathlib.Core.Path.{_≡_, refl, ap₂, subst}
-use mathlib.Core.Bool.{Bool}
 use mathlib.Core.List.{List, [], _∷_, _++_, map}
 use mathlib.Core.Logic.{_⊎_, inl, inr}
 use native.Mathlib.Decide.{decLt}
@@ -11,17 +10,16 @@ use lib.Dec.{T}
 use lib.IntN.{ℤ, pos, negsuc, negℤ, _-ℤ_}
 use lib.ListN.{List·getD-eq-default}
 use lib.Signed.{_≤ℤ_, leZ-yes}
-use Rattle.network.specs.Sums.{all}
 use Rattle.network.specs.Network.{unlimited, Arc, Network, potential, integers, past-kink, legal, legal-at, Feasible}
 use Rattle.network.specs.laws.IntegerParts.{le-parts, sum-parts, up-neg, down-neg, min-parts}
 use Rattle.network.specs.Integers.{down, up}
-use Rattle.network.specs.laws.Tests.{and-left, and-right, all-append}
+use Rattle.network.specs.laws.Tests.{Listed, listed-first, listed-second}
 
 -- among the arcs one with an unlimited high and a kink that is not positive leads from v to ground, behind the nodes, or to
 -- an earlier node
 pub record Hook (nodes : ℕ) (arcs : List Arc) (v : ℕ) : Type 0 where
   pub arc : Arc
-  pub listed : (t : Arc → Bool) → T (all t arcs) → T (t arc)
+  pub listed : Listed arc arcs
   pub tail-is : arc .tail ≡ v
   pub hard : arc .high ≡ unlimited
   pub not-right : arc .kink ≤ℤ pos 0
@@ -36,7 +34,7 @@ pub hook-first : {nodes v : ℕ} (xs ys : List Arc) → Hook nodes xs v → Hook
 hook-first xs ys h =
     record {
       arc = h .arc;
-      listed = λ t a. h .listed t (and-left (all t xs) (all t ys) (rw (all-append t xs ys) at a));
+      listed = listed-first xs ys (h .listed);
       tail-is = h .tail-is;
       hard = h .hard;
       not-right = h .not-right;
@@ -48,7 +46,7 @@ pub hook-second : {nodes v : ℕ} (xs ys : List Arc) → Hook nodes ys v → Hoo
 hook-second xs ys h =
     record {
       arc = h .arc;
-      listed = λ t a. h .listed t (and-right (all t xs) (all t ys) (rw (all-append t xs ys) at a));
+      listed = listed-second xs ys (h .listed);
       tail-is = h .tail-is;
       hard = h .hard;
       not-right = h .not-right;
@@ -98,7 +96,7 @@ module _ {N : Network} (hangs : Hangs N) (q : List ℤ) (f : Feasible N q) where
       go ih (no past) = ground-zero v (omega arith)
       go ih (yes inner) =
           let h = hangs .hook v inner in
-          subst (λ (u : ℕ). down (potential q u) ≡ 0) (h .tail-is) (carried (h .arc) (h .listed (legal q) (f .legals)) (h .hard) (h .not-right) (reached ih (h .arc .head) (h .onto)))
+          subst (λ (u : ℕ). down (potential q u) ≡ 0) (h .tail-is) (carried (h .arc) (h .listed .passes (legal q) (f .legals)) (h .hard) (h .not-right) (reached ih (h .arc .head) (h .onto)))
 
   -- no node is negative
   nonnegative : (v : ℕ) → down (potential q v) ≡ 0

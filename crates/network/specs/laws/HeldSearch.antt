@@ -14,10 +14,9 @@ use Rattle.network.specs.Integers.{eqZ}
 use Rattle.network.specs.Sums.{all}
 use Rattle.network.specs.Network.{potential}
 use Rattle.network.specs.laws.Integers.{eqZ→eq}
-use Rattle.network.specs.laws.Tests.{and-left, and-right}
+use Rattle.network.specs.laws.Tests.{and-left, and-right, Listed, listed-here, listed-later}
 use Rattle.network.specs.laws.Residuals.{Residual}
-use Rattle.network.specs.laws.Held.{Among, Held}
-use Rattle.network.specs.laws.Held.Among.{here, later}
+use Rattle.network.specs.laws.Held.{Held}
 use Rattle.network.specs.laws.Held.Held.{by-ground, along}
 
 -- residual arc r is tight at p, and goes from a node of the set H to one outside
@@ -45,7 +44,7 @@ held-set p rs = steps (length p) p (leb (length p)) rs
 -- what a step finds: no residual arc leaves the set, or one does and its end is added
 data Search (p : List ℤ) (H : ℕ → Bool) (rs : List Residual) : Type 0 where
   closed : T (all (λ r. not (leaves p H r)) rs) → step p H rs ≡ H → Search p H rs
-  found : {r : Residual} → Among r rs → T (leaves p H r) → step p H rs ≡ add (r .to) H → Search p H rs
+  found : {r : Residual} → Listed r rs → T (leaves p H r) → step p H rs ≡ add (r .to) H → Search p H rs
 
 -- a step finds one or the other
 search-all : (p : List ℤ) (H : ℕ → Bool) (rs : List Residual) → Search p H rs
@@ -55,10 +54,10 @@ search-all p H (r ∷ rs) = go (leaves p H r) refl (search-all p H rs)
     -- where the first residual arc does not leave the set, the others decide
     more : leaves p H r ≡ false → Search p H rs → Search p H (r ∷ rs)
     more e (closed t f) = closed (rw e t) (rw e f)
-    more e (found m t f) = found (later m) t (rw e f)
+    more e (found m t f) = found (listed-later r rs m) t (rw e f)
 
     go : (b : Bool) → leaves p H r ≡ b → Search p H rs → Search p H (r ∷ rs)
-    go true e rest = found here (rw e tt) (rw e)
+    go true e rest = found (listed-here r rs) (rw e tt) (rw e)
     go false e rest = more e rest
 
 -- how many of the first n nodes are not in the set

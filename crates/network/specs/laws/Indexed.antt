@@ -14,7 +14,7 @@ use lib.Seq.{getD-drop}
 use Rattle.network.specs.Sums.{all, upto}
 use Rattle.network.specs.Network.{Arc}
 use Rattle.network.specs.Flows.{Flow, flows}
-use Rattle.network.specs.laws.Tests.{and-left, and-right, and-both, all-append}
+use Rattle.network.specs.laws.Tests.{and-left, and-right, and-both, all-append, Listed}
 
 module _ {A : Type 0} where
   -- one more element
@@ -98,6 +98,10 @@ module _ {A : Type 0} (t : A → Bool) where
   upto-all (suc n) f a (suc i) l =
       upto-all n (λ i. f (suc i)) (and-right (t (f 0)) (all t (upto n (λ i. f (suc i)))) (rw (upto-first n f) at a)) i
       (omega arith)
+
+-- which is an element
+pub listed-upto : {A : Type 0} (n : ℕ) (f : ℕ → A) (i : ℕ) → i < n → Listed (f i) (upto n f)
+listed-upto n f i l = record { passes = λ t a. upto-all t n f a i l }
 
 -- an element by index
 pub upto-in : {A : Type 0} (d : A) (n : ℕ) (f : ℕ → A) (i : ℕ) → i < n → getD (upto n f) i d ≡ f i

@@ -123,6 +123,27 @@ module _ {A : Type 0} where
   all-append t [] ys = refl
   all-append t (x ∷ xs) ys = ap (λ (b : Bool). t x && b) (all-append t xs ys) ∙ sym (and-assoc (t x) (all t xs) (all t ys))
 
+-- x is an element of a list: whatever test all elements pass, x passes
+pub record Listed {A : Type 0} (x : A) (xs : List A) : Type 0 where
+  pub passes : (t : A → Bool) → T (all t xs) → T (t x)
+
+module _ {A : Type 0} where
+  -- the first element
+  pub listed-here : (x : A) (xs : List A) → Listed x (x ∷ xs)
+  listed-here x xs = record { passes = λ t a. and-left (t x) (all t xs) a }
+
+  -- a later one
+  pub listed-later : {x : A} (z : A) (xs : List A) → Listed x xs → Listed x (z ∷ xs)
+  listed-later z xs m = record { passes = λ t a. m .passes t (and-right (t z) (all t xs) a) }
+
+  -- an element of the first of two lists
+  pub listed-first : {x : A} (xs ys : List A) → Listed x xs → Listed x (xs ++ ys)
+  listed-first xs ys m = record { passes = λ t a. m .passes t (and-left (all t xs) (all t ys) (rw (all-append t xs ys) at a)) }
+
+  -- of the second
+  pub listed-second : {x : A} (xs ys : List A) → Listed x ys → Listed x (xs ++ ys)
+  listed-second xs ys m = record { passes = λ t a. m .passes t (and-right (all t xs) (all t ys) (rw (all-append t xs ys) at a)) }
+
 module _ {A B : Type 0} where
   -- a test over an image
   pub all-image : (t : A → Bool) (g : B → A) (xs : List B) → all t (map g xs) ≡ all (λ x. t (g x)) xs
@@ -134,3 +155,7 @@ module _ {A B : Type 0} where
   unfolding flatMap
   all-flat t g [] = refl
   all-flat t g (x ∷ xs) = all-append t (g x) (flatMap g xs) ∙ ap (λ (b : Bool). all t (g x) && b) (all-flat t g xs)
+
+  -- an element of one of the lists of a list
+  pub listed-flat : (g : B → List A) {z : B} (zs : List B) {x : A} → Listed z zs → Listed x (g z) → Listed x (flatMap g zs)
+  listed-flat g zs i m = record { passes = λ t a. m .passes t (i .passes (λ z. all t (g z)) (rw (all-flat t g zs) at a)) }
