@@ -3,12 +3,11 @@
 use Rattle.network.specs.laws.Tests.{fails, Listed}
 use Rattle.network.specs.Net.{at, Net, arcs, tail, head, low, high, asks, stands, meant}
 use Rattle.network.specs.laws.Indexed.{upto-length, upto-ext, listed-upto}
-use Rattle.network.specs.laws.PackedLegal.{less-parts}
 use Rattle.circulation.specs.Nodes.{potentials, ranks, parents, rooms, size, potential-zero}
 use Rattle.circulation.specs.inside.Steps.{Flooded}
 use Rattle.circulation.specs.inside.Finish.{Settled}
 use Rattle.circulation.specs.laws.Columns.{column-length}
-use Rattle.network.specs.laws.IntegerParts.{parts-eq}
+use Rattle.network.specs.laws.IntegerParts.{parts-eq, less-parts}
 use Rattle.network.specs.Integers.{down, up, eqZ}
 use Rattle.network.specs.laws.Integers.{eqZ→eq}
 use Rattle.network.specs.Network.{LeftmostLeast, unlimited, limit, reached, past-kink}

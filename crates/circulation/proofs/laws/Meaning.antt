@@ -2,10 +2,9 @@
 use Rattle.network.specs.laws.Indexed.{upto-ext, upto-in, upto-past, all-upto, flows-upto}
 use Rattle.network.specs.laws.Sums.{sum-append}
 use Rattle.network.specs.laws.Tests.{at-below, and-both, not-both}
-use Rattle.network.specs.laws.PackedLegal.{less-parts, minus-parts}
 use Rattle.network.specs.Sums.{sum, sum-to, all, only, upto}
 use Rattle.network.specs.laws.SumsTo.{sum-to-add}
-use Rattle.network.specs.laws.IntegerParts.{parts-le, parts-eq, sum-parts}
+use Rattle.network.specs.laws.IntegerParts.{parts-le, parts-eq, sum-parts, less-parts, minus-parts}
 use Rattle.network.specs.Integers.{down, up, eqZ}
 use Rattle.network.specs.laws.Integers.{eqZ-refl, eq→eqZ}
 use Rattle.network.specs.Network.{Limit, potential, unlimited, limit, reached, at-most, at-least, Arc, past-kink}

@@ -3,7 +3,7 @@
 use Rattle.network.specs.Net.{at, Net, meant}
 use Rattle.network.specs.laws.Indexed.{upto-in}
 use Rattle.network.specs.Integers.{down, up}
-use Rattle.network.specs.laws.PackedLegal.{less-parts}
+use Rattle.network.specs.laws.IntegerParts.{less-parts}
 use Rattle.network.specs.laws.Unique.{leftmost-unique}
 use Rattle.circulation.specs.Nodes.{potentials, size, node-stride, potential-zero}
 use Rattle.circulation.specs.Solutions.{potentials-of, Solution, Cleared, Finding, Means}
@@ -23,7 +23,13 @@ potentials-same : (n : ℕ) (p q : ℕ → ℕ) → potentials-of n p ≡ potent
     → q (n - 1) ≡ potential-zero → (v : ℕ) → v < n → p v ≡ q v
 potentials-same n p q e g h v l = elim (ℕ-discrete v (n - 1)) [
   | yes last ↦ omega (arith, ap p last, ap q last)
-  | no ne ↦ omega (arith, less-parts (p v) potential-zero, less-parts (q v) potential-zero, ap up (same (omega arith)), ap down (same (omega arith)))
+  | no ne ↦ omega (
+    arith,
+    less-parts (p v) potential-zero,
+    less-parts (q v) potential-zero,
+    ap up (same (omega arith)),
+    ap down (same (omega arith)),
+  )
 ]
   where
     same : v < n - 1 → (pos (p v) -ℤ pos potential-zero) ≡ (pos (q v) -ℤ pos potential-zero)
@@ -46,7 +52,8 @@ module _ (N : Net) (x₀ nodes₀ chains₀ x nodes chains y other hints : List 
     where
       potential : (v : ℕ) → v < size nodes₀ → at (potentials nodes) v ≡ at (potentials other) v
       potential v l = potentials-same (size nodes₀) (at (potentials nodes)) (at (potentials other))
-          (leftmost-unique (meant N (size nodes₀)) (potentials-of (size nodes₀) (at (potentials nodes))) (potentials-of (size nodes₀) (at (potentials other))) (s .best) (t .best))
+          (leftmost-unique (meant N (size nodes₀)) (potentials-of (size nodes₀) (at (potentials nodes)))
+          (potentials-of (size nodes₀) (at (potentials other))) (s .best) (t .best))
           (s .ground) (t .ground) v l
 
       number : (v k : ℕ) → v < size nodes₀ → k < node-stride → Dec (k ≡ 0)
@@ -60,7 +67,8 @@ module _ (N : Net) (x₀ nodes₀ chains₀ x nodes chains y other hints : List 
       each : (i : ℕ) → Dec (i < node-stride * size nodes₀) → at nodes i ≡ at other i
       each i (yes l) =
           let place : node-stride * (i / node-stride) + i % node-stride ≡ i = omega arith in
-          ap (at nodes) (sym place) ∙ (number (i / node-stride) (i % node-stride) (omega arith) (omega arith) (ℕ-discrete (i % node-stride) 0) ∙ ap (at other) place)
+          ap (at nodes) (sym place)
+          ∙ (number (i / node-stride) (i % node-stride) (omega arith) (omega arith) (ℕ-discrete (i % node-stride) 0) ∙ ap (at other) place)
       each i (no past) = c .rest i (omega arith) ∙ sym (d .rest i (omega arith))
 
   -- nodes and chains are the same

@@ -17,7 +17,7 @@ use Rattle.network.specs.Packed.{stride}
 use Rattle.network.specs.Net.{at}
 use Rattle.network.specs.Integers.{down, up}
 use Rattle.network.specs.laws.Indexed.{upto-length, upto-in}
-use Rattle.network.specs.laws.PackedLegal.{less-parts}
+use Rattle.network.specs.laws.IntegerParts.{less-parts}
 use Rattle.network.specs.laws.Duality.{tight-equal}
 use Rattle.sheet.specs.Limits.{max-width}
 use Rattle.drawing.specs.Sheet.{Sheet, sheet-of}

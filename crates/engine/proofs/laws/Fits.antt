@@ -10,13 +10,14 @@ use lib.Dec.{T}
 use lib.IntN.{ℤ, pos, negsuc, _-ℤ_}
 use Rattle.network.specs.Sums.{all}
 use Rattle.network.specs.Network.{limit, Arc, Network}
-use Rattle.network.specs.Packed.{stride, kink-at, low-at, high-at, kink-zero, flow-zero, low-none, high-none, low-of, high-of, arc-at, network-of}
+use Rattle.network.specs.Packed.{stride, kink-at, low-at, high-at, kink-zero, flow-zero, low-none, high-none, low-of, high-of}
+use Rattle.network.specs.Packed.{arc-at, network-of}
 use Rattle.network.specs.Net.{at, net, meant}
 use Rattle.network.specs.WellFormed.{WellFormed}
 use Rattle.network.specs.Integers.{down, up}
 use Rattle.network.specs.laws.Sizes.{size-parts}
 use Rattle.network.specs.laws.Indexed.{upto-all}
-use Rattle.network.specs.laws.PackedLegal.{less-parts}
+use Rattle.network.specs.laws.IntegerParts.{less-parts}
 use Rattle.network.specs.laws.Hanging.{Hangs}
 use Rattle.drawing.specs.laws.Hanging.{sheet-hangs}
 use Rattle.drawing.specs.Sheet.{sheet-of}
@@ -96,8 +97,18 @@ module _ {a : List ℕ} {c : Counts} (h : Holds a c) where
   -- the kink of an arc
   kink-in : (i : ℕ) → i < c .arcs → (1 ≤ at a (stride * i + kink-at)) × (at a (stride * i + kink-at) < 2 * kink-zero)
   kink-in i l = (
-    omega (arith, near-at i l .kink, size-parts (pos (at a (stride * i + kink-at)) -ℤ pos kink-zero), less-parts (at a (stride * i + kink-at)) kink-zero),
-    omega (arith, near-at i l .kink, size-parts (pos (at a (stride * i + kink-at)) -ℤ pos kink-zero), less-parts (at a (stride * i + kink-at)) kink-zero),
+    omega (
+      arith,
+      near-at i l .kink,
+      size-parts (pos (at a (stride * i + kink-at)) -ℤ pos kink-zero),
+      less-parts (at a (stride * i + kink-at)) kink-zero,
+    ),
+    omega (
+      arith,
+      near-at i l .kink,
+      size-parts (pos (at a (stride * i + kink-at)) -ℤ pos kink-zero),
+      less-parts (at a (stride * i + kink-at)) kink-zero,
+    ),
   )
 
   -- the packed arcs are well formed

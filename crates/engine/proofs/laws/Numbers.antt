@@ -3,9 +3,8 @@ use Prim.Native.Nat.{ℕ, _≤_}
 use native.Mathlib.Omega.{arith}
 use lib.IntN.{natAbs}
 use Rattle.network.specs.Packed.{flow-zero, high-none}
-use Rattle.network.specs.laws.IntegerParts.{min-parts}
+use Rattle.network.specs.laws.IntegerParts.{min-parts, less-parts}
 use Rattle.network.specs.laws.Sizes.{size-parts}
-use Rattle.network.specs.laws.PackedLegal.{less-parts}
 use Rattle.engine.specs.inside.Results.{number-of}
 
 -- its size is at most 2^28

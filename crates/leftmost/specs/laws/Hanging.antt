@@ -49,7 +49,8 @@ hooked n v x = eqb (x .tail) v && (not (finite (x .high)) && (leb n (x .head) ||
 hook-hooked : (n v : ℕ) (xs : List Arc) (k : Hook n xs v) → T (hooked n v (k .arc))
 hook-hooked n v xs k =
     let x : Arc = k .arc in
-    and-both (eqb (x .tail) v) (not (finite (x .high)) && (leb n (x .head) || ltb (x .head) v)) (subst T (sym (eq-eqb (x .tail) v (k .tail-is))) tt)
+    and-both (eqb (x .tail) v) (not (finite (x .high)) && (leb n (x .head) || ltb (x .head) v))
+    (subst T (sym (eq-eqb (x .tail) v (k .tail-is))) tt)
     (and-both (not (finite (x .high))) (leb n (x .head) || ltb (x .head) v) (rw (k .hard) tt)
     (⊎-elim
     (λ (past : n ≤ x .head). or-left (leb n (x .head)) (ltb (x .head) v) (le→leb n (x .head) past))

@@ -7,11 +7,11 @@ use mathlib.Core.Logic.{_⊎_, inl, inr}
 use native.Mathlib.Decide.{decLt}
 use native.Mathlib.Omega.{arith}
 use lib.Dec.{T}
-use lib.IntN.{ℤ, pos, negsuc, negℤ, _-ℤ_}
+use lib.IntN.{ℤ, pos, negsuc, _-ℤ_}
 use lib.ListN.{List·getD-eq-default}
 use lib.Signed.{_≤ℤ_, leZ-yes}
 use Rattle.network.specs.Network.{unlimited, Arc, Network, potential, integers, past-kink, legal, legal-at, Feasible}
-use Rattle.network.specs.laws.IntegerParts.{le-parts, sum-parts, up-neg, down-neg, min-parts}
+use Rattle.network.specs.laws.IntegerParts.{le-parts, minus-parts, min-parts}
 use Rattle.network.specs.Integers.{down, up}
 use Rattle.network.specs.laws.Tests.{Listed, listed-first, listed-second}
 
@@ -74,12 +74,8 @@ module _ {N : Network} (hangs : Hangs N) (q : List ℤ) (f : Feasible N q) where
         arith,
         le-parts (hard-side a (past-kink q a) hard l),
         le-parts k,
-        sum-parts (potential q (a .head) -ℤ potential q (a .tail)) (negℤ (a .kink)),
-        sum-parts (potential q (a .head)) (negℤ (potential q (a .tail))),
-        up-neg (a .kink),
-        down-neg (a .kink),
-        up-neg (potential q (a .tail)),
-        down-neg (potential q (a .tail)),
+        minus-parts (potential q (a .head) -ℤ potential q (a .tail)) (a .kink),
+        minus-parts (potential q (a .head)) (potential q (a .tail)),
         min-parts (potential q (a .tail)),
       )
 
@@ -96,7 +92,8 @@ module _ {N : Network} (hangs : Hangs N) (q : List ℤ) (f : Feasible N q) where
       go ih (no past) = ground-zero v (omega arith)
       go ih (yes inner) =
           let h = hangs .hook v inner in
-          subst (λ (u : ℕ). down (potential q u) ≡ 0) (h .tail-is) (carried (h .arc) (h .listed .passes (legal q) (f .legals)) (h .hard) (h .not-right) (reached ih (h .arc .head) (h .onto)))
+          subst (λ (u : ℕ). down (potential q u) ≡ 0) (h .tail-is)
+          (carried (h .arc) (h .listed .passes (legal q) (f .legals)) (h .hard) (h .not-right) (reached ih (h .arc .head) (h .onto)))
 
   -- no node is negative
   nonnegative : (v : ℕ) → down (potential q v) ≡ 0

@@ -43,7 +43,8 @@ listed-unless true r n = absurd n
 listed-unless false r n = listed-here r []
 
 -- a flow that is at its kink
-module _ (N : Network) (y : List ℤ) {p : List ℤ} (f : Flow) (there : Listed f (flows (N .arcs) y)) (kink : past-kink p (f .on) ≡ pos 0) where
+module _ (N : Network) (y : List ℤ) {p : List ℤ} (f : Flow) (there : Listed f (flows (N .arcs) y))
+    (kink : past-kink p (f .on) ≡ pos 0) where
   -- where it can grow, its head holds its tail
   pub head-holds : T (not (reached (f .on .high) (f .amount))) → Held p (residuals N y) (f .on .head) → Held p (residuals N y) (f .on .tail)
   unfolding residuals

@@ -6,14 +6,14 @@ use mathlib.Core.Bool.{Bool, true, false, not, _&&_, cond}
 use Prim.Native.Nat.{ℕ, zero, suc, _+_, _≤_}
 use native.Mathlib.Omega.{arith}
 use lib.Dec.{T, T-not}
-use lib.IntN.{ℤ, pos, negℤ, _+ℤ_, _-ℤ_}
+use lib.IntN.{ℤ, pos, _+ℤ_, _-ℤ_}
 use lib.ListN.{length}
 use lib.Signed.{_≤ℤ_, leZ-yes}
 use Rattle.network.specs.Integers.{eqZ, up, down}
 use Rattle.network.specs.Sums.{all, below}
 use Rattle.network.specs.Network.{Network, Feasible, potential, LeftmostLeast}
 use Rattle.network.specs.Flows.{rules, complementary}
-use Rattle.network.specs.laws.IntegerParts.{le-parts, parts-le, parts-eq, sum-parts}
+use Rattle.network.specs.laws.IntegerParts.{le-parts, parts-le, parts-eq, sum-parts, minus-parts}
 use Rattle.network.specs.laws.Integers.{eq→eqZ}
 use Rattle.network.specs.laws.Tests.{is-true, not-not, below-at, at-below, all-map₂}
 use Rattle.network.specs.laws.Duality.{tight-feasible, tight-equal}
@@ -41,7 +41,7 @@ lower-potential H (x ∷ p) past (suc v) = lower-potential (λ v. H (suc v)) p (
 -- the parts of a number less 1
 less-one : (a : ℤ) → up (a -ℤ pos 1) + (down a + 1) ≡ down (a -ℤ pos 1) + up a
 unfolding up down
-less-one a = omega (arith, sum-parts a (negℤ (pos 1)))
+less-one a = omega (arith, minus-parts a (pos 1))
 
 -- the move keeps a residual arc, unless it is tight and goes from the set to a node outside
 lower-step : (hf ht : Bool) (a k b : ℤ) → (a +ℤ k) ≤ℤ b → T (not ((hf && not ht) && eqZ (a +ℤ k) b))

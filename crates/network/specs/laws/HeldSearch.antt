@@ -4,17 +4,17 @@ use mathlib.Core.List.{List, [], _∷_}
 use mathlib.Core.Bool.{Bool, true, false, not, _&&_, cond}
 use Prim.Native.Nat.{ℕ, zero, suc, _+_, _≤_, _<_}
 use native.Mathlib.Decide.{ℕ-discrete, decLt}
-use native.Mathlib.Nat.{not-suc-le-zero}
 use native.Mathlib.Omega.{arith}
 use lib.Dec.{T, T-not, eqb, leb, leb→le, le→leb}
 use lib.IntN.{ℤ, _+ℤ_}
 use lib.ListN.{length}
 use borrow.Author.Tests.{eq-eqb, ne-eqb}
 use Rattle.network.specs.Integers.{eqZ}
-use Rattle.network.specs.Sums.{all}
+use Rattle.network.specs.Sums.{all, sum-to}
 use Rattle.network.specs.Network.{potential}
 use Rattle.network.specs.laws.Integers.{eqZ→eq}
 use Rattle.network.specs.laws.Tests.{and-left, and-right, Listed, listed-here, listed-later}
+use Rattle.network.specs.laws.SumsTo.{sum-to-lt, sum-to-bound}
 use Rattle.network.specs.laws.Residuals.{Residual}
 use Rattle.network.specs.laws.Held.{Held}
 use Rattle.network.specs.laws.Held.Held.{by-ground, along}
@@ -62,42 +62,28 @@ search-all p H (r ∷ rs) = go (leaves p H r) refl (search-all p H rs)
 
 -- how many of the first n nodes are not in the set
 abbrev missing : ℕ → (ℕ → Bool) → ℕ
-missing zero H = 0
-missing (suc n) H = cond (H n) 0 1 + missing n H
+missing n H = sum-to n (λ v. cond (H v) 0 1)
 
-module _ (u : ℕ) (H : ℕ → Bool) where
-  -- adding a node makes no other one missing
-  term-le : (v : ℕ) → cond (add u H v) 0 1 ≤ cond (H v) 0 1
-  term-le v = elim (eqb u v) as (λ b. cond (cond b true (H v)) 0 1 ≤ cond (H v) 0 1) [ true ↦ omega arith | false ↦ omega arith ]
+-- adding one of them that is missing leaves fewer missing
+missing-less : (u : ℕ) (H : ℕ → Bool) (n : ℕ) → u < n → T (not (H u)) → missing n (add u H) < missing n H
+missing-less u H n h t = sum-to-lt n (λ v. cond (add u H v) 0 1) (λ v. cond (H v) 0 1) (λ v l. no-more v) u h (less (H u) t)
+  where
+    -- no other node goes missing
+    no-more : (v : ℕ) → cond (add u H v) 0 1 ≤ cond (H v) 0 1
+    no-more v = elim (eqb u v) as (λ b. cond (cond b true (H v)) 0 1 ≤ cond (H v) 0 1) [ true ↦ omega arith | false ↦ omega arith ]
 
-  -- so it leaves no more nodes missing
-  missing-le : (n : ℕ) → missing n (add u H) ≤ missing n H
-  missing-le zero = omega arith
-  missing-le (suc n) = omega (arith, term-le n, missing-le n)
-
-  -- a missing node that is added counts no more
-  here-less : T (not (H u)) → cond (add u H u) 0 1 < cond (H u) 0 1
-  here-less t =
-      rw (eq-eqb u u refl)
-      (elim (H u) as (λ b. T (not b) → 0 < cond b 0 1) [ true ↦ λ f. absurd f | false ↦ λ f. omega arith ] t)
-
-  -- adding one of the first n nodes that is missing leaves fewer missing
-  missing-less : (n : ℕ) → u < n → T (not (H u)) → missing n (add u H) < missing n H
-  missing-less zero h t = absurd (not-suc-le-zero h)
-  missing-less (suc n) h t = elim (ℕ-discrete u n) [
-    | yes e ↦ subst (λ (k : ℕ). cond (add u H k) 0 1 + missing n (add u H) < cond (H k) 0 1 + missing n H) e
-        (omega (arith, here-less t, missing-le n))
-    | no ne ↦ less (missing-less n (omega arith) t)
-  ]
-    where
-      less : missing n (add u H) < missing n H → missing (suc n) (add u H) < missing (suc n) H
-      less fewer = omega (arith, term-le n)
+    -- and this one counts no more
+    less : (b : Bool) → T (not b) → cond (cond (eqb u u) true b) 0 1 < cond b 0 1
+    less true f = absurd f
+    less false f = rw (eq-eqb u u refl) (omega arith)
 
 -- at most all n are missing
 missing-all : (n : ℕ) (H : ℕ → Bool) → missing n H ≤ n
-missing-all zero H = omega arith
-missing-all (suc n) H =
-    omega (arith, missing-all n H, elim (H n) as (λ b. cond b 0 1 ≤ 1) [ true ↦ omega arith | false ↦ omega arith ])
+missing-all n H = omega (arith, sum-to-bound n 1 (λ v. cond (H v) 0 1) (λ v l. one (H v)))
+  where
+    one : (b : Bool) → cond b 0 1 ≤ 1
+    one true = omega arith
+    one false = omega arith
 
 -- the search is complete: the set holds held nodes only, ground among them, and no tight residual arc leaves it
 pub record Reached (p : List ℤ) (rs : List Residual) (H : ℕ → Bool) : Type 0 where

@@ -5,7 +5,7 @@ use mathlib.Core.Path.{_≡_, refl, ap}
 use mathlib.Core.Bool.{true, false, not, cond}
 use native.Mathlib.Omega.{arith}
 use lib.Dec.{T, ltb, ltb→lt, nltb→le, leb→le, le→leb}
-use lib.IntN.{ℤ, pos, negsuc, negℤ, _+ℤ_, subℕ}
+use lib.IntN.{ℤ, pos, negsuc, negℤ, _+ℤ_, _-ℤ_, subℕ}
 use lib.Signed.{_≤ℤ_}
 use Rattle.network.specs.Integers.{up, down}
 
@@ -70,6 +70,15 @@ sum-parts (pos a) (pos b) = omega arith
 sum-parts (pos a) (negsuc b) = omega (arith, sub-parts a (suc b))
 sum-parts (negsuc a) (pos b) = omega (arith, sub-parts b (suc a))
 sum-parts (negsuc a) (negsuc b) = omega arith
+
+-- the parts of a difference
+pub minus-parts : (a b : ℤ) → up (a -ℤ b) + (down a + up b) ≡ down (a -ℤ b) + (up a + down b)
+minus-parts a b = omega (arith, sum-parts a (negℤ b), up-neg b, down-neg b)
+
+-- of natural numbers
+pub less-parts : (a b : ℕ) → up (pos a -ℤ pos b) + b ≡ down (pos a -ℤ pos b) + a
+unfolding up down
+less-parts a b = omega (arith, minus-parts (pos a) (pos b))
 
 -- one of the parts is 0
 pub min-parts : (a : ℤ) → min (up a) (down a) ≡ 0

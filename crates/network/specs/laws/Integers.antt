@@ -4,10 +4,11 @@ use Prim.Native.Nat.{ℕ, zero, suc}
 use mathlib.Core.Path.{_≡_, sym, _∙_, ap, subst}
 use native.Mathlib.Omega.{arith}
 use lib.Dec.{T, eqb→eq, eqb-refl}
-use lib.IntN.{ℤ, pos, negsuc, negℤ, sucℤ, predℤ, _+ℤ_, _-ℤ_, _*ℤ_, +ℤ-sucℤ, +ℤ-predℤ, +ℤ-assoc, +ℤ-idr, sucℤ-*ℤ, predℤ-*ℤ, zero-*ℤ, *ℤ-comm, *ℤ-zero, +ℤ-invr, negℤ-+ℤ}
+use lib.IntN.{ℤ, pos, negsuc, negℤ, sucℤ, predℤ, _+ℤ_, _-ℤ_, _*ℤ_, +ℤ-sucℤ, +ℤ-predℤ, +ℤ-assoc, +ℤ-idr, sucℤ-*ℤ, predℤ-*ℤ}
+use lib.IntN.{zero-*ℤ, *ℤ-comm, *ℤ-zero, +ℤ-invr, negℤ-+ℤ}
 use lib.Signed.{_≤ℤ_, ≤ℤ-refl}
 use Rattle.network.specs.Integers.{gap, eqZ, down, up}
-use Rattle.network.specs.laws.IntegerParts.{le-parts, parts-le, parts-eq, up-neg, down-neg, sum-parts}
+use Rattle.network.specs.laws.IntegerParts.{le-parts, parts-le, parts-eq, up-neg, down-neg, sum-parts, minus-parts}
 
 -- the order is transitive
 pub ≤ℤ-trans : {a b c : ℤ} → a ≤ℤ b → b ≤ℤ c → a ≤ℤ c
@@ -69,13 +70,13 @@ pub -ℤ-swap : (a b c d : ℤ) → (a -ℤ b) +ℤ (c -ℤ d) ≡ (a +ℤ c) -�
 pub to-other-side : (a b c : ℤ) → a +ℤ (b -ℤ c) ≡ pos 0 → a ≡ c -ℤ b
 unfolding up down
 to-other-side a b c e = parts-eq a (c -ℤ b)
-    (omega (arith, ap up e, ap down e, sum-parts a (b -ℤ c), sum-parts b (negℤ c), sum-parts c (negℤ b), up-neg b, down-neg b, up-neg c, down-neg c))
+    (omega (arith, ap up e, ap down e, sum-parts a (b -ℤ c), minus-parts b c, minus-parts c b))
 
 -- and back
 pub from-other-side : (a b c : ℤ) → a ≡ c -ℤ b → a +ℤ (b -ℤ c) ≡ pos 0
 unfolding up down
 from-other-side a b c e = parts-eq (a +ℤ (b -ℤ c)) (pos 0)
-    (omega (arith, ap up e, ap down e, sum-parts a (b -ℤ c), sum-parts b (negℤ c), sum-parts c (negℤ b), up-neg b, down-neg b, up-neg c, down-neg c))
+    (omega (arith, ap up e, ap down e, sum-parts a (b -ℤ c), minus-parts b c, minus-parts c b))
 
 -- a number whose sum with a is 0 is −a
 pub negℤ-unique : (a b : ℤ) → a +ℤ b ≡ pos 0 → b ≡ negℤ a

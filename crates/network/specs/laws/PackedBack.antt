@@ -6,12 +6,14 @@ use mathlib.Core.List.{List, [], _∷_, _++_}
 use native.Mathlib.Omega.{arith}
 use borrow.Author.Tests.{ne-eqb}
 use lib.Dec.{T, ltb, ltb→lt}
-use lib.IntN.{ℤ, pos, negsuc, natAbs, negℤ, _-ℤ_}
+use lib.IntN.{ℤ, pos, negsuc, natAbs, _-ℤ_}
 use lib.ListN.{length, getD}
 use Rattle.network.specs.Sums.{all, upto}
 use Rattle.network.specs.Network.{Limit, unlimited, limit, Arc}
-use Rattle.network.specs.Packed.{tail-at, head-at, kink-at, low-at, high-at, stride, kink-zero, flow-zero, low-none, high-none, raised, low-number, high-number, packs, inside, storable, low-of, high-of, arc-of, arc-at, arcs-to}
-use Rattle.network.specs.laws.IntegerParts.{parts-eq, up-neg, down-neg, sum-parts}
+use Rattle.network.specs.Packed.{tail-at, head-at, kink-at, low-at, high-at, stride, kink-zero, flow-zero, low-none}
+use Rattle.network.specs.Packed.{high-none, raised, low-number, high-number, packs, inside, storable, low-of, high-of}
+use Rattle.network.specs.Packed.{arc-of, arc-at, arcs-to}
+use Rattle.network.specs.laws.IntegerParts.{parts-eq, less-parts}
 use Rattle.network.specs.Integers.{down, up}
 use Rattle.network.specs.laws.Tests.{and-left, and-right}
 use Rattle.network.specs.laws.Indexed.{upto-first}
@@ -35,10 +37,10 @@ raised-back : (k : ℕ) (z : ℤ) → natAbs z < k → pos (raised k z) -ℤ pos
 unfolding up down
 raised-back k (pos n) h =
     parts-eq (pos (k + n) -ℤ pos k) (pos n)
-    (omega (arith, sum-parts (pos (k + n)) (negℤ (pos k)), up-neg (pos k), down-neg (pos k)))
+    (omega (arith, less-parts (k + n) k))
 raised-back k (negsuc n) h =
     parts-eq (pos (k - suc n) -ℤ pos k) (negsuc n)
-    (omega (arith, sum-parts (pos (k - suc n)) (negℤ (pos k)), up-neg (pos k), down-neg (pos k)))
+    (omega (arith, less-parts (k - suc n) k))
 
 -- a raised number is not 0, and below twice what was added
 pub raised-in : (k : ℕ) (z : ℤ) → natAbs z < k → (0 < raised k z) × (raised k z < 2 * k)
@@ -63,7 +65,8 @@ high-back (limit x) t =
 
 -- arcs between the same ends with equal kinks and limits
 arc-ext : {t h : ℕ} {k k′ : ℤ} {l l′ u u′ : Limit} → k ≡ k′ → l ≡ l′ → u ≡ u′
-    → _≡_ {A = Arc} (record { tail = t; head = h; kink = k; low = l; high = u }) (record { tail = t; head = h; kink = k′; low = l′; high = u′ })
+    → _≡_ {A = Arc} (record { tail = t; head = h; kink = k; low = l; high = u })
+    (record { tail = t; head = h; kink = k′; low = l′; high = u′ })
 arc-ext e f g = rw (e, f, g)
 
 -- the kink of a storable arc is small

@@ -8,22 +8,13 @@ use native.Mathlib.Decide.{ℕ-discrete}
 use native.Mathlib.Omega.{arith}
 use borrow.Author.Tests.{eq-eqb, ne-eqb}
 use lib.Dec.{T, eqb}
-use lib.IntN.{ℤ, pos, negsuc, negℤ, _-ℤ_}
+use lib.IntN.{ℤ, pos, negsuc, _-ℤ_}
 use lib.ListN.{List·getD-map}
 use Rattle.network.specs.Network.{unlimited, limit, finite, Arc, potential, integers, past-kink, legal-at, legal}
 use Rattle.network.specs.Packed.{kink-zero, flow-zero, low-none, high-none, low-of, high-of, arc-at}
 use Rattle.network.specs.Net.{at, Net, tail, head, kink, low, high, HardHigh, HardLow, stands, asks}
-use Rattle.network.specs.laws.IntegerParts.{sum-parts, up-neg, down-neg, min-parts}
+use Rattle.network.specs.laws.IntegerParts.{less-parts, minus-parts, min-parts}
 use Rattle.network.specs.Integers.{down, up}
-
--- the parts of a difference of natural numbers
-pub less-parts : (a b : ℕ) → up (pos a -ℤ pos b) + b ≡ down (pos a -ℤ pos b) + a
-unfolding up down
-less-parts a b = omega (arith, sum-parts (pos a) (negℤ (pos b)), up-neg (pos b), down-neg (pos b))
-
--- the parts of a difference of integers
-pub minus-parts : (a b : ℤ) → up (a -ℤ b) + (down a + up b) ≡ down (a -ℤ b) + (up a + down b)
-minus-parts a b = omega (arith, sum-parts a (negℤ b), up-neg b, down-neg b)
 
 -- a test that is not false passes
 test-true : (b : Bool) → (b ≡ false → ⊥) → T b
@@ -93,7 +84,8 @@ module _ (N : Net) (p : List ℕ) (i : ℕ) where
   natural u = List·getD-map pos p u 0
 
   -- how far right of its kink, in natural numbers
-  past-kink-parts : up (past-kink (integers p) (arc-at (N .list) i)) + asks N (at p) i ≡ down (past-kink (integers p) (arc-at (N .list) i)) + stands N (at p) i
+  past-kink-parts : up (past-kink (integers p) (arc-at (N .list) i)) + asks N (at p) i
+      ≡ down (past-kink (integers p) (arc-at (N .list) i)) + stands N (at p) i
   unfolding up down
   past-kink-parts =
       rw (natural (head N i), natural (tail N i))

@@ -12,7 +12,7 @@ use Rattle.network.specs.Integers.{up, down}
 use Rattle.network.specs.Sums.{all}
 use Rattle.network.specs.Network.{Network, reached, potential, past-kink}
 use Rattle.network.specs.Flows.{Flow, flows, tight, complementary}
-use Rattle.network.specs.laws.IntegerParts.{le-parts, parts-le, parts-eq, sum-parts, up-neg, down-neg}
+use Rattle.network.specs.laws.IntegerParts.{le-parts, parts-le, parts-eq, sum-parts, minus-parts}
 use Rattle.network.specs.laws.Tests.{and-left, and-right, and-both, test-ext, all-ext, all-append, all-flat}
 use Rattle.network.specs.laws.Differences.{tight-high, tight-low, differences-tight}
 
@@ -60,17 +60,17 @@ all-unless t false r a n = and-left (t r) true a
 module _ (h t k : ℤ) where
   -- a tension in its parts
   parts : up ((h -ℤ t) -ℤ k) + (down h + (up t + up k)) ≡ down ((h -ℤ t) -ℤ k) + (up h + (down t + down k))
-  parts = omega (arith, sum-parts (h -ℤ t) (negℤ k), sum-parts h (negℤ t), up-neg t, down-neg t, up-neg k, down-neg k)
+  parts = omega (arith, minus-parts (h -ℤ t) k, minus-parts h t)
 
   -- not past the kink: the head keeps the tail right
-  not-past : ((h -ℤ t) -ℤ k) ≤ℤ pos 0 → (h +ℤ negℤ k) ≤ℤ t
+  not-past : ((h -ℤ t) -ℤ k) ≤ℤ pos 0 → (h -ℤ k) ≤ℤ t
   unfolding up down
-  not-past le = parts-le (h +ℤ negℤ k) t (omega (arith, parts, le-parts le, sum-parts h (negℤ k), up-neg k, down-neg k))
+  not-past le = parts-le (h -ℤ k) t (omega (arith, parts, le-parts le, minus-parts h k))
 
   -- and back
-  past-not : (h +ℤ negℤ k) ≤ℤ t → ((h -ℤ t) -ℤ k) ≤ℤ pos 0
+  past-not : (h -ℤ k) ≤ℤ t → ((h -ℤ t) -ℤ k) ≤ℤ pos 0
   unfolding up down
-  past-not le = parts-le ((h -ℤ t) -ℤ k) (pos 0) (omega (arith, parts, le-parts le, sum-parts h (negℤ k), up-neg k, down-neg k))
+  past-not le = parts-le ((h -ℤ t) -ℤ k) (pos 0) (omega (arith, parts, le-parts le, minus-parts h k))
 
   -- not before the kink: the tail keeps the head right
   not-before : pos 0 ≤ℤ ((h -ℤ t) -ℤ k) → (t +ℤ k) ≤ℤ h
@@ -83,9 +83,9 @@ module _ (h t k : ℤ) where
   before-not le = parts-le (pos 0) ((h -ℤ t) -ℤ k) (omega (arith, parts, le-parts le, sum-parts t k))
 
   -- at the kink both are equalities: from the head
-  pub kink-back : (h -ℤ t) -ℤ k ≡ pos 0 → h +ℤ negℤ k ≡ t
+  pub kink-back : (h -ℤ t) -ℤ k ≡ pos 0 → h -ℤ k ≡ t
   unfolding up down
-  kink-back e = parts-eq (h +ℤ negℤ k) t (omega (arith, parts, ap up e, ap down e, sum-parts h (negℤ k), up-neg k, down-neg k))
+  kink-back e = parts-eq (h -ℤ k) t (omega (arith, parts, ap up e, ap down e, minus-parts h k))
 
   -- and from the tail
   pub kink-forth : (h -ℤ t) -ℤ k ≡ pos 0 → t +ℤ k ≡ h

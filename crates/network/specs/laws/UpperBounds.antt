@@ -5,12 +5,12 @@ use Prim.Native.Nat.{ℕ, zero, suc, _+_, _≤_}
 use native.Mathlib.Omega.{arith}
 use lib.Dec.{T, leb→le}
 use lib.ListN.{List·getD-map}
-use lib.IntN.{ℤ, pos, negsuc, negℤ, _-ℤ_}
+use lib.IntN.{ℤ, pos, negsuc, _-ℤ_}
 use lib.Signed.{_≤ℤ_, leZ-yes}
 use Rattle.network.specs.Integers.{up, down}
 use Rattle.network.specs.Network.{integers, potential, past-kink, legal-at, legal, upper-bound}
 use Rattle.network.specs.Net.{at}
-use Rattle.network.specs.laws.IntegerParts.{le-parts, parts-le, sum-parts, up-neg, down-neg}
+use Rattle.network.specs.laws.IntegerParts.{le-parts, parts-le, minus-parts}
 
 -- a node's potential, of natural numbers, is the number at its index
 pub integer-potential : (p : List ℕ) (v : ℕ) → potential (integers p) v ≡ pos (at p v)
@@ -44,15 +44,12 @@ le-upper-bound u v k (negsuc n) h = tt
 module _ (p : List ℕ) (u v : ℕ) where
   -- how far an arc from u to v is past its kink, as an equation of natural numbers
   pub past-kink-parts : (k : ℤ)
-      → up (past-kink (integers p) (upper-bound u v k)) + (at p u + up k) ≡ down (past-kink (integers p) (upper-bound u v k)) + (at p v + down k)
+      → up (past-kink (integers p) (upper-bound u v k)) + (at p u + up k)
+      ≡ down (past-kink (integers p) (upper-bound u v k)) + (at p v + down k)
   past-kink-parts k = omega (
     arith,
-    sum-parts (potential (integers p) v -ℤ potential (integers p) u) (negℤ k),
-    sum-parts (potential (integers p) v) (negℤ (potential (integers p) u)),
-    up-neg (potential (integers p) u),
-    down-neg (potential (integers p) u),
-    up-neg k,
-    down-neg k,
+    minus-parts (potential (integers p) v -ℤ potential (integers p) u) k,
+    minus-parts (potential (integers p) v) (potential (integers p) u),
     up-potential p u,
     down-potential p u,
     up-potential p v,
