@@ -46,6 +46,10 @@ is-drawing S p =
     eqb (length p) (S .nodes)
     && (all (λ x. leb x (S .width)) p && (all (λ l. all (separated p) (l .pairs)) (S .layers) && all (edge-aligned p) (S .edges)))
 
+-- no drawing exists
+abbrev pub NoDrawing : Sheet → Type 0
+NoDrawing S = (q : List ℕ) → Drawing S q → ⊥
+
 -- the length (run) of an edge: the size of the difference of its ends' coordinates
 abbrev pub edge-length : List ℕ → Edge → ℕ
 edge-length p e = (coordinate p (e .lower) - coordinate p (e .upper)) + (coordinate p (e .upper) - coordinate p (e .lower))

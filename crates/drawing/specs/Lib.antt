@@ -1,6 +1,7 @@
 pub mod Sheet
 pub mod Proper
 pub mod Drawing
+pub mod Widths
 pub mod Certificate
 pub mod Judged
 pub mod Arcs

@@ -8,7 +8,7 @@ use lib.ListN.{length}
 use Rattle.leb128.specs.Format.Result.{elements}
 use Rattle.sheet.specs.Reading.{read-sheet}
 use Rattle.drawing.specs.Sheet.{Sheet, sheet-of}
-use Rattle.drawing.specs.Drawing.{Drawing, total-length, LeftmostDrawing}
+use Rattle.drawing.specs.Drawing.{NoDrawing, total-length, LeftmostDrawing}
 use Rattle.drawing.specs.Certificate.{certificate-size}
 use Rattle.drawing.specs.Judged.{judged}
 
@@ -43,7 +43,7 @@ pub record Rejected (S : Sheet) (coordinates : List ℕ) (list : List ℤ) : Typ
 -- what an outcome says of a sheet
 abbrev pub Says : Sheet → Outcome → Type 0
 Says S (drawn total coordinates list) = Drawn S total coordinates list
-Says S (undrawable list) = (coordinates : List ℕ) → Drawing S coordinates → ⊥
+Says S (undrawable list) = NoDrawing S
 Says S (rejected coordinates list) = Rejected S coordinates list
 
 -- what a row says: the bytes read as a good sheet, and its outcome is this

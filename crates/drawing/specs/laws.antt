@@ -15,6 +15,7 @@ pub mod Shift
 pub mod LeastAssignment
 pub mod LeftmostTest
 pub mod Unique
+pub mod Widths
 pub mod Rows
 pub mod Table
 pub mod Located

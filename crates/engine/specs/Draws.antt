@@ -12,7 +12,7 @@ use Rattle.leb128.specs.Refusals.{slice-short}
 use Rattle.leb128.specs.Format.{Result}
 use Rattle.leb128.specs.Format.Result.{elements}
 use Rattle.drawing.specs.Sheet.{Sheet, sheet-of}
-use Rattle.drawing.specs.Drawing.{Drawing, LeftmostDrawing, total-length}
+use Rattle.drawing.specs.Drawing.{NoDrawing, LeftmostDrawing, total-length}
 use Rattle.drawing.specs.Certificate.{certificate-size, meets-rules, bound}
 use Rattle.engine.specs.Refusals.{no-drawing}
 use Rattle.engine.specs.declared.Answer.{Answer}
@@ -31,10 +31,6 @@ result (answer.Refused r) = Reply.refused r
 pub record Room (S : Sheet) (places list : ℕ) : Type 0 where
   pub nodes : S .nodes ≤ places
   pub numbers : certificate-size S ≤ list
-
--- no drawing exists
-abbrev pub NoDrawing : Sheet → Type 0
-NoDrawing S = (q : List ℕ) → Drawing S q → ⊥
 
 -- why a good sheet is refused, by the refusal's number: a slice is too short; no drawing exists
 pub data Refuses (S : Sheet) (places list : ℕ) : ℕ → Type 0 where

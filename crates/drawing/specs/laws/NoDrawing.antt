@@ -17,7 +17,7 @@ use Rattle.network.specs.Network.{Arc, integers}
 use Rattle.network.specs.Flows.{Flow, flows, allowed, inflow, balanced, rules, bound-term, bound as network-bound}
 use Rattle.network.specs.laws.NoSolution.{hard-arc, hard, refutes, none-feasible}
 use Rattle.drawing.specs.Sheet.{Sheet}
-use Rattle.drawing.specs.Drawing.{Drawing}
+use Rattle.drawing.specs.Drawing.{NoDrawing}
 use Rattle.drawing.specs.Arcs.{edge-arc-between, maximum-arc, network}
 use Rattle.drawing.specs.Certificate.{EdgeTerm, LayerTerm, certificate, meets-rules, bound}
 use Rattle.drawing.specs.laws.Terms.{edge-flow, minimum-flow, maximum-flow, left-flow, right-flow, layer-flows, layer-all, network-all}
@@ -123,5 +123,5 @@ module _ (S : Sheet) (y : List ℤ) (t : T (shows-none S y)) where
       (subst (λ (z : ℤ). T (ltZ (pos 0) z)) (sym (hard-sum bound-term ∙ same-bound S y)) (and-right idle above rest))
 
   -- so no coordinates are a drawing
-  pub no-drawing : (p : List ℕ) → Drawing S p → ⊥
+  pub no-drawing : NoDrawing S
   no-drawing p d = none-feasible (network S) y hard-refutes (integers p) (drawing-feasible S p d)

@@ -13,8 +13,9 @@ use Rattle.leb128.specs.declared.Refusal.{Refusal}
 use Rattle.sheet.specs.Reading.{read-sheet}
 use Rattle.sheet.specs.laws.Sheets.{reader-refusals, reader-offsets}
 use Rattle.drawing.specs.Sheet.{Sheet, sheet-of}
+use Rattle.drawing.specs.Drawing.{NoDrawing}
 use Rattle.engine.specs.Refusals.{no-drawing, DrawRefusal}
-use Rattle.engine.specs.Draws.{Room, NoDrawing, Refuses, Draws}
+use Rattle.engine.specs.Draws.{Room, Refuses, Draws}
 use Rattle.engine.specs.Draws.Refuses.{few-places, few-numbers, none}
 
 -- with slices that are long enough a good sheet is refused for want of a drawing only

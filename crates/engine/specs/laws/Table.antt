@@ -15,7 +15,7 @@ use Rattle.leb128.specs.Format.{Result}
 use Rattle.leb128.specs.Format.Result.{elements}
 use Rattle.sheet.specs.Reading.{read-sheet}
 use Rattle.drawing.specs.Sheet.{Sheet, sheet-of}
-use Rattle.drawing.specs.Drawing.{LeftmostDrawing, total-length}
+use Rattle.drawing.specs.Drawing.{NoDrawing, LeftmostDrawing, total-length}
 use Rattle.drawing.specs.Certificate.{certificate-size}
 use Rattle.drawing.specs.Judged.{judged}
 use Rattle.drawing.specs.Rows.{Outcome, Says, Row, RowHolds, Every}
@@ -25,7 +25,7 @@ use Rattle.drawing.specs.laws.Table.{sheets}
 use Rattle.checker.specs.Verdict.{check-answer}
 use Rattle.checker.specs.laws.Decided.{numbers-decided}
 use Rattle.engine.specs.Refusals.{no-drawing}
-use Rattle.engine.specs.Draws.{Drawn, Room, NoDrawing, DrawsSheet, Draws}
+use Rattle.engine.specs.Draws.{Drawn, Room, DrawsSheet, Draws}
 use Rattle.engine.specs.laws.Refusals.{refused-none}
 use Rattle.engine.specs.Answers.{EveryDrawing, Answered, EveryAnswered}
 
