@@ -11,7 +11,7 @@ use Rattle.leb128.specs.Format.Result.{elements}
 use Rattle.leb128.specs.Reply.{Reply}
 use Rattle.leb128.specs.declared.Refusal.{Refusal}
 use Rattle.sheet.specs.Reading.{read-sheet}
-use Rattle.sheet.specs.laws.Sheets.{reader-refusals, reader-offsets}
+use Rattle.sheet.specs.laws.Sheets.{reader-refusals}
 use Rattle.drawing.specs.Sheet.{Sheet, sheet-of}
 use Rattle.drawing.specs.Drawing.{NoDrawing}
 use Rattle.engine.specs.Refusals.{no-drawing, DrawRefusal}
@@ -46,8 +46,8 @@ module _ (bytes p₀ : List ℕ) (y₀ : List ℤ) (p : List ℕ) (y : List ℤ)
           }
       go (Result.refused s) e g =
           let is-s : s ≡ r = cc in
-          let n = reader-refusals bytes s e in
-          rw (sym is-s) (record { number-in = (n .0, omega (arith, n .1)); offset-in = reader-offsets bytes s e })
+          let g = reader-refusals bytes s e in
+          rw (sym is-s) (record { number-in = (g .number-in .0, omega (arith, g .number-in .1)); offset-in = g .offset-in })
 
   -- 9 is never given
   pub never-nine : r .number ≡ 9 → ⊥

@@ -14,8 +14,8 @@ use Rattle.leb128.specs.Grammar.{Form, Grammar, Rule, plain, within, both}
 use Rattle.leb128.specs.laws.Cases.{test, eq-or-ne, lt-or-le}
 use Rattle.leb128.specs.laws.EachNumber.{Each, first, each-more, within-limits}
 use Rattle.leb128.specs.laws.EachNumber.Each.{end}
-use Rattle.sheet.specs.Refusals.{separations-crossed, WriterRefusal}
-use Rattle.sheet.specs.Refusals.WriterRefusal.{outside, apart}
+use Rattle.sheet.specs.Refusals.{separations-crossed, NumberRefusal}
+use Rattle.sheet.specs.Refusals.NumberRefusal.{outside, apart}
 use Rattle.sheet.specs.Limits.{max-width, max-kind, max-layers, max-layer-nodes, max-nodes, max-separation, max-edges, max-numbers}
 use Rattle.sheet.specs.Layout.{first-layer-at, separation-stride, layer-size, edges-at, edge-stride}
 use Rattle.sheet.specs.Grammar.{crossed, maximum-rule, separation, separations, layers, edge, edges, sheet}
@@ -24,10 +24,10 @@ use Rattle.sheet.specs.Grammar.{crossed, maximum-rule, separation, separ
 pub record SheetNumber (form : Form) (rule : Rule) : Type 0 where
   pub is-plain : form ≡ plain
   pub small : (n : ℕ) → rule n ≡ 0 → (n < number-limit) × (n < list-limit)
-  pub gives : (n : ℕ) → (rule n ≡ 0) ⊎ WriterRefusal (rule n)
+  pub gives : (n : ℕ) → (rule n ≡ 0) ⊎ NumberRefusal (rule n)
 
 -- limits give refusal 4
-within-gives : (low high n : ℕ) → (within low high n ≡ 0) ⊎ WriterRefusal (within low high n)
+within-gives : (low high n : ℕ) → (within low high n ≡ 0) ⊎ NumberRefusal (within low high n)
 unfolding within
 within-gives low high n =
     ⊎-elim
@@ -54,7 +54,7 @@ both-zero one other n e =
     (eq-or-ne (one n) 0)
 
 -- crossed separations give refusal 5
-crossed-gives : (least n : ℕ) → (crossed least n ≡ 0) ⊎ WriterRefusal (crossed least n)
+crossed-gives : (least n : ℕ) → (crossed least n ≡ 0) ⊎ NumberRefusal (crossed least n)
 unfolding crossed
 crossed-gives least n =
     ⊎-elim
@@ -63,7 +63,7 @@ crossed-gives least n =
     (test (not (eqb n 0) && ltb n least))
 
 -- a maximum separation gives 4 or 5
-both-gives : (least n : ℕ) → (maximum-rule least n ≡ 0) ⊎ WriterRefusal (maximum-rule least n)
+both-gives : (least n : ℕ) → (maximum-rule least n ≡ 0) ⊎ NumberRefusal (maximum-rule least n)
 unfolding both
 both-gives least n =
     ⊎-elim

@@ -12,21 +12,23 @@ use Rattle.leb128.specs.Walk.{asked}
 use Rattle.leb128.specs.Format.{Result, Outcome, encoded, answered}
 use Rattle.leb128.specs.Format.Result.{elements}
 use Rattle.leb128.specs.Number.{AreBytes}
-use Rattle.leb128.specs.laws.EachNumber.{each-map, most-asked as format-most-asked}
+use Rattle.leb128.specs.Refusals.{something-follows, slice-short}
+use Rattle.leb128.specs.laws.EachNumber.{Each, each-map, most-asked as format-most-asked}
 use Rattle.leb128.specs.laws.AcceptedNumbers.{chain-accepts, most-numbers as accepted-most}
 use Rattle.leb128.specs.laws.GoodFormat.{good-reading, good-writing}
 use Rattle.leb128.specs.laws.OneToOne.{Fits, accepted-written as format-accepted-written, read-written as format-read-written}
 use Rattle.leb128.specs.laws.OneToOne.{write-read as format-write-read}
 use Rattle.leb128.specs.laws.Offsets.{reader-offsets as format-reader-offsets, writer-offsets as format-writer-offsets}
 use Rattle.leb128.specs.laws.FirstBytes.{front-reading, most-bytes as format-most-bytes}
-use Rattle.leb128.specs.laws.RefusalsGiven.{reader-gives, writer-gives}
+use Rattle.leb128.specs.laws.RefusalsGiven.{Gives, reader-gives, writer-gives}
 use Rattle.leb128.specs.declared.Refusal.{Refusal}
 use Rattle.sheet.specs.Limits.{magic, max-numbers, max-bytes}
 use Rattle.sheet.specs.Grammar.{sheet}
 use Rattle.sheet.specs.Reading.{read-sheet, write-sheet}
 use Rattle.sheet.specs.laws.SheetNumbers.{SheetNumber, each-sheet}
-use Rattle.sheet.specs.Refusals.{WriterRefusal, FormatRefusal}
-use Rattle.sheet.specs.Refusals.WriterRefusal.{ended, outside, apart, follows, short}
+use Rattle.sheet.specs.Refusals.{NumberRefusal, WriterRefusal, NumberTo, RefusalTo}
+use Rattle.sheet.specs.Refusals.NumberRefusal.{outside, apart}
+use Rattle.sheet.specs.Refusals.WriterRefusal.{ended, number, follows, short}
 use Rattle.sheet.specs.laws.LaidOut.{laid-out}
 use Rattle.sheet.specs.Layout.{LaidOut}
 
@@ -89,32 +91,45 @@ pub read-alike : (one other : List ℕ) → take (max-bytes + 1) one ≡ take (m
     → read-sheet one ≡ read-sheet other
 read-alike one other e = sym (first-bytes one) ∙ (ap read-sheet e ∙ first-bytes other)
 
+-- the rules of a sheet's numbers give refusals of P, where those of a number are
+number-rules : (P : ℕ → Type 0) → ((n : ℕ) → NumberRefusal n → P n) → Each (Gives P) max-numbers sheet
+number-rules P f =
+    each-map (λ form rule p n. ⊎-elim (λ (z : rule n ≡ 0). inl z) (λ (w : NumberRefusal (rule n)). inr (f (rule n) w)) (p .gives n)) each-sheet
+
 -- the writer gives refusals 1, 4, 5, 6 and 7 only
 pub writer-refusals : (numbers : List ℕ) (room : ℕ) (r : Refusal)
     → answered room (write-sheet numbers) ≡ Outcome.refused r → WriterRefusal (r .number)
 unfolding write-sheet
-writer-refusals = writer-gives WriterRefusal ended follows short (each-map (λ form rule p. p .gives) each-sheet) magic
+writer-refusals = writer-gives WriterRefusal ended follows short (number-rules WriterRefusal (λ n r. number r)) magic
 
--- the writer's are among them
-pub writer-given : {n : ℕ} → WriterRefusal n → FormatRefusal n
+-- those of a number are 4 and 5
+number-given : {n : ℕ} → NumberRefusal n → NumberTo something-follows n
+number-given outside = (omega arith, omega arith)
+number-given apart = (omega arith, omega arith)
+
+-- the writer's are from 1 to 7
+pub writer-given : {n : ℕ} → WriterRefusal n → NumberTo slice-short n
 writer-given ended = (omega arith, omega arith)
-writer-given outside = (omega arith, omega arith)
-writer-given apart = (omega arith, omega arith)
+writer-given (number r) = let g = number-given r in (g .0, omega (arith, g .1))
 writer-given follows = (omega arith, omega arith)
 writer-given short = (omega arith, omega arith)
 
--- and so are the reader's
-pub reader-refusals : (bytes : List ℕ) (r : Refusal) → read-sheet bytes ≡ Result.refused r → FormatRefusal (r .number)
+-- the reader's are from 1 to 6
+reader-numbers : (bytes : List ℕ) (r : Refusal) → read-sheet bytes ≡ Result.refused r → NumberTo something-follows (r .number)
 unfolding read-sheet
-reader-refusals =
-    reader-gives FormatRefusal (omega arith, omega arith) (omega arith, omega arith) (omega arith, omega arith) (omega arith, omega arith)
-    (each-map (λ form rule p n. ⊎-elim (λ (z : rule n ≡ 0). inl z) (λ (w : WriterRefusal (rule n)). inr (writer-given w))
-    (p .gives n)) each-sheet) magic
+reader-numbers =
+    reader-gives (NumberTo something-follows)
+    (omega arith, omega arith) (omega arith, omega arith) (omega arith, omega arith) (omega arith, omega arith)
+    (number-rules (NumberTo something-follows) (λ n r. number-given r)) magic
 
--- the reader refuses at an offset of at most 5,121
-pub reader-offsets : (bytes : List ℕ) (r : Refusal) → read-sheet bytes ≡ Result.refused r → r .offset ≤ max-bytes
+-- at an offset of at most 5,121
+reader-offsets : (bytes : List ℕ) (r : Refusal) → read-sheet bytes ≡ Result.refused r → r .offset ≤ max-bytes
 unfolding read-sheet
 reader-offsets = format-reader-offsets each-sheet magic
+
+-- the refusals of reading
+pub reader-refusals : (bytes : List ℕ) (r : Refusal) → read-sheet bytes ≡ Result.refused r → RefusalTo something-follows r
+reader-refusals bytes r e = record { number-in = reader-numbers bytes r e; offset-in = reader-offsets bytes r e }
 
 -- the writer refuses at an index of at most 2,559
 pub writer-offsets : (numbers : List ℕ) (r : Refusal) → write-sheet numbers ≡ Result.refused r → r .offset ≤ max-numbers

@@ -9,16 +9,16 @@ use native.Mathlib.Omega.{arith}
 use lib.IntN.{ℤ}
 use borrow.Author.Tests.{lt-ltb, le-ltb}
 use lib.ListN.{length}
+use Rattle.leb128.specs.Refusals.{slice-short}
 use Rattle.leb128.specs.declared.Refusal.{Refusal}
 use Rattle.leb128.specs.Format.{Result, Outcome, answered}
 use Rattle.leb128.specs.Format.Result.{elements}
 use Rattle.leb128.specs.laws.Cases.{lt-or-le}
 use Rattle.leb128.specs.Reply.{Reply}
-use Rattle.sheet.specs.Limits.{max-bytes}
 use Rattle.sheet.specs.Reading.{read-sheet, write-sheet}
 use Rattle.sheet.specs.laws.Sheets.{read-accepted, most-numbers, most-bytes, read-written, writer-refusals, writer-given}
-use Rattle.sheet.specs.laws.Sheets.{reader-refusals, reader-offsets, writer-offsets}
-use Rattle.sheet.specs.Refusals.{FormatRefusal}
+use Rattle.sheet.specs.laws.Sheets.{reader-refusals, writer-offsets}
+use Rattle.sheet.specs.Refusals.{RefusalTo}
 use Rattle.checker.specs.Verdict.{check-answer}
 use Rattle.checker.specs.laws.Refusals.{check-refusals}
 use Rattle.engine.specs.Draws.{Drawn, Draws}
@@ -27,9 +27,9 @@ use Rattle.engine.specs.laws.Totals.{drawn-total}
 use Rattle.strip.specs.Words.{unit}
 use Rattle.strip.specs.HeldWords.{HeldRefusal, HeldOutcome, HeldDrawn, HeldJudgement}
 
--- a refusal of a format
-given-held : (r : Refusal) → FormatRefusal (r .number) → r .offset ≤ max-bytes → HeldRefusal r
-given-held r n o = record { numbered = n .0; offset-in = omega arith }
+-- a refusal of a call that reads a sheet's bytes
+given-held : {most : ℕ} {r : Refusal} → RefusalTo most r → HeldRefusal r
+given-held g = record { numbered = g .number-in .0; offset-in = omega (arith, g .offset-in) }
 
 -- elements are counted, or have no room
 elements-held : (room : ℕ) (es : List ℕ) → length es < unit → HeldOutcome (answered room (elements es))
@@ -56,7 +56,7 @@ reading-held bytes room = go (read-sheet bytes) refl
   where
     go : (read : Result) → read-sheet bytes ≡ read → HeldOutcome (answered room read)
     go (elements numbers) e = elements-held room numbers (omega (arith, most-numbers numbers (read-accepted bytes numbers e)))
-    go (Result.refused r) e = refused-held room r (given-held r (reader-refusals bytes r e) (reader-offsets bytes r e))
+    go (Result.refused r) e = refused-held room r (given-held (reader-refusals bytes r e))
 
 -- of writing
 pub writing-held : (numbers : List ℕ) (room : ℕ) → HeldOutcome (answered room (write-sheet numbers))
@@ -65,15 +65,18 @@ writing-held numbers room = go (write-sheet numbers) refl
     go : (written : Result) → write-sheet numbers ≡ written → HeldOutcome (answered room written)
     go (elements bytes) e = elements-held room bytes (omega (arith, most-bytes bytes numbers (read-written numbers bytes e)))
     go (Result.refused r) e =
-        refused-held room r (given-held r (writer-given (writer-refusals numbers room r (rw e (refused-answer room r))))
-        (omega (arith, writer-offsets numbers r e)))
+        refused-held room r
+        (given-held {most = slice-short}
+        (record {
+          number-in = writer-given (writer-refusals numbers room r (rw e (refused-answer room r)));
+          offset-in = omega (arith, writer-offsets numbers r e);
+        }))
 
 -- of drawing
 pub drawing-held : (bytes p₀ : List ℕ) (y₀ : List ℤ) (p : List ℕ) (y : List ℤ) (d : Drawn)
     → Draws (read-sheet bytes) p₀ y₀ p y d → HeldDrawn d
 drawing-held bytes p₀ y₀ p y (Reply.value total) h = omega (arith, drawn-total bytes p₀ y₀ p y total h)
-drawing-held bytes p₀ y₀ p y (Reply.refused r) h =
-    let g = draw-refusals bytes p₀ y₀ p y r h in record { numbered = g .number-in .0; offset-in = omega (arith, g .offset-in) }
+drawing-held bytes p₀ y₀ p y (Reply.refused r) h = given-held (draw-refusals bytes p₀ y₀ p y r h)
 
 -- of checking
 pub checking-held : (bytes places : List ℕ) (list : List ℤ) → HeldJudgement (check-answer (read-sheet bytes) places list)
@@ -82,4 +85,4 @@ checking-held bytes places list = go (check-answer (read-sheet bytes) places lis
     go : (j : Reply Bool) → check-answer (read-sheet bytes) places list ≡ j → HeldJudgement j
     go (Reply.value true) e = omega arith
     go (Reply.value false) e = omega arith
-    go (Reply.refused r) e = let g = check-refusals bytes places list r e in given-held r (g .number-in) (g .offset-in)
+    go (Reply.refused r) e = given-held (check-refusals bytes places list r e)
