@@ -2,5 +2,6 @@ pub mod Limits
 pub mod Words
 pub mod Loading
 pub mod Lengths
+pub mod Widths
 pub mod inside
 pub mod laws

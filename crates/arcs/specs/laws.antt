@@ -2,3 +2,4 @@ pub mod Fitting
 pub mod Loaded
 pub mod HeldArcs
 pub mod SheetLengths
+pub mod Widened

@@ -17,7 +17,7 @@ use Rattle.arcs.specs.Words.{u32-most}
 use Rattle.arcs.specs.Lengths.{distance, lengths, lengths-of}
 
 -- the arc of an edge has its ends
-ends : (kind u v : ℕ) → (edge-arc-between kind u v .tail ≡ u) × (edge-arc-between kind u v .head ≡ v)
+pub ends : (kind u v : ℕ) → (edge-arc-between kind u v .tail ≡ u) × (edge-arc-between kind u v .head ≡ v)
 ends zero u v = (refl, refl)
 ends (suc kind) u v = (refl, refl)
 
