@@ -17,7 +17,7 @@ use Rattle.arcs.specs.declared.Counts.{Counts}
 use Rattle.arcs.specs.declared.Loaded.{Loaded}
 use Rattle.arcs.specs.declared.Loaded.the-variants.{Sheet, Refused}
 
--- what each case of the code's answer stands for: the counts of a sheet and its width, or the refusal
+-- what each case of the code's answer stands for: the counts of a sheet, or the refusal
 unfoldable pub loading : Loaded → Reply Counts
 loading (Sheet c) = Reply.value c
 loading (Refused r) = Reply.refused r
@@ -26,9 +26,9 @@ loading (Refused r) = Reply.refused r
 abbrev pub arcs-size : drawing.Sheet → ℕ
 arcs-size S = stride * length (network S .arcs)
 
--- the counts of a sheet and its width
+-- the counts of a sheet
 abbrev pub counts-of : drawing.Sheet → Counts
-counts-of S = record { nodes = S .nodes; edges = length (S .edges); arcs = length (network S .arcs); width = S .width }
+counts-of S = record { nodes = S .nodes; edges = length (S .edges); arcs = length (network S .arcs) }
 
 -- refusal 7: the lent slice, of room elements, is too short for the sheet's arcs
 unfoldable pub fitted : drawing.Sheet → ℕ → Reply Counts

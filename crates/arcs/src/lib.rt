@@ -28,12 +28,11 @@ ghost use Rattle.sheet.specs.Reading.{«read-sheet»};
 ghost use Rattle.drawing.specs.laws.Good.{Good};
 ghost use Rattle.arcs.specs.Loading.{loading, «load-answer», «load-slice»};
 
-// The counts of a sheet and its width.
+// The counts of a sheet.
 pub struct Counts {
     pub nodes: usize,
     pub edges: usize,
     pub arcs: usize,
-    pub width: usize,
 }
 
 // A sheet whose arcs were loaded, or the refusal.
@@ -102,6 +101,5 @@ fn load_numbers(numbers: &[u16], arcs: &mut [u32]) -> Loaded
         nodes: nodes,
         edges: edges,
         arcs: count,
-        width: width,
     })
 }

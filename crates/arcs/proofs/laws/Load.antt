@@ -47,28 +47,23 @@ module _ {s first : List ℕ} {p : Plan} (g : Good max-nodes s) (planned : Plann
     pub too-short-slice : a ≡ load-slice (elements s) a
     too-short-slice = sym (short-slice s a (omega (arith, size-is)))
 
-  module _ {width : ℕ} (e : Small width (getD s width-at 0)) (h : stride * (p .edges + 2 * p .nodes) ≤ length a) where
-    -- the sheet's width
-    width-is : sheet-of s .width ≡ width
-    unfolding sheet-of
-    width-is = sym (e .is)
-
+  module _ (h : stride * (p .edges + 2 * p .nodes) ≤ length a) where
     -- the sheet's counts are the plan's
-    counts : counts-of (sheet-of s) ≡ record { nodes = p .nodes; edges = p .edges; arcs = p .edges + 2 * p .nodes; width = width }
-    counts = cc (plan-nodes g planned, plan-edges g planned, plan-arcs g planned (sheet-of s .width), width-is)
+    counts : counts-of (sheet-of s) ≡ record { nodes = p .nodes; edges = p .edges; arcs = p .edges + 2 * p .nodes }
+    counts = cc (plan-nodes g planned, plan-edges g planned, plan-arcs g planned (sheet-of s .width))
 
     -- long enough: the answer
-    pub long-enough-answer : loading (loaded.Sheet
-        (record { nodes = p .nodes; edges = p .edges; arcs = p .edges + 2 * p .nodes; width = width }))
+    pub long-enough-answer : loading (loaded.Sheet (record { nodes = p .nodes; edges = p .edges; arcs = p .edges + 2 * p .nodes }))
         ≡ load-answer (length a) (elements s)
     unfolding loading
     long-enough-answer = sym (long-answer s (length a) (omega (arith, size-is)) ∙ ap Reply.value counts)
 
     -- long enough: the slice
-    pub long-enough-slice : {b : List ℕ} → b ≡ written (network (at-width width (sheet-of s))) a → b ≡ load-slice (elements s) a
-    unfolding written packed
-    long-enough-slice f =
-        f ∙ ap (λ (w : ℕ). written (network (at-width w (sheet-of s))) a) (sym width-is) ∙ sym (long-slice s a (omega (arith, size-is)))
+    pub long-enough-slice : {width : ℕ} {b : List ℕ} → Small width (getD s width-at 0)
+        → b ≡ written (network (at-width width (sheet-of s))) a → b ≡ load-slice (elements s) a
+    unfolding written packed sheet-of
+    long-enough-slice e f =
+        f ∙ ap (λ (w : ℕ). written (network (at-width w (sheet-of s))) a) (e .is) ∙ sym (long-slice s a (omega (arith, size-is)))
 
 -- what the reader answered and left
 module _ {answer : Answer} (bytes old new : List ℕ) (e : outcome answer ≡ answered (length old) (read-sheet bytes))

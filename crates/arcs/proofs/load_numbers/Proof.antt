@@ -56,9 +56,8 @@ returns-2 c =
     let plan = c .before .before .before .before .before .before .before .before .plan in
     let if1 = c .before .before .before .before .before .before .if1 in
     let number = c .before .before .before .before .before .number in (
-      long-enough-answer (start .pre) (plan .ensures) (start .args .arcs .now) (number .ensures)
-          (omega (arith, if1 .left)),
-      long-enough-slice (start .pre) (plan .ensures) (start .args .arcs .now) (number .ensures) (omega (arith, if1 .left))
+      long-enough-answer (start .pre) (plan .ensures) (start .args .arcs .now) (omega (arith, if1 .left)),
+      long-enough-slice (start .pre) (plan .ensures) (start .args .arcs .now) (omega (arith, if1 .left)) (number .ensures)
           (c .before .before .fill .ensures),
     )
 

@@ -39,7 +39,6 @@ pub record LoadedSheet (bytes old new : List ℕ) (c : Counts) : Type 0 where
   pub nodes : c .nodes ≡ sheet-of numbers .nodes
   pub edges : c .edges ≡ length (sheet-of numbers .edges)
   pub arcs : c .arcs ≡ length (network (sheet-of numbers) .arcs)
-  pub width : c .width ≡ sheet-of numbers .width
   pub room : arcs-size (sheet-of numbers) ≤ length old
   pub slice : new ≡ packs (network (sheet-of numbers) .arcs) ++ drop (arcs-size (sheet-of numbers)) old
 
@@ -76,7 +75,6 @@ loaded-sheet bytes old {new} {answer} {c} is e f = go (read-sheet bytes) refl (s
           nodes = ap (λ (k : Counts). k .nodes) same;
           edges = ap (λ (k : Counts). k .edges) same;
           arcs = ap (λ (k : Counts). k .arcs) same;
-          width = ap (λ (k : Counts). k .width) same;
           room = h;
           slice = f ∙ long-slice numbers old h;
         })
