@@ -8,3 +8,4 @@ pub mod FirstNodes
 pub mod Fill
 pub mod Load
 pub mod Adding
+pub mod Widening

@@ -1,4 +1,4 @@
-// The arcs of a sheet's network, loaded into a lent slice in the packed layout, and the lengths of its edges.
+// The arcs of a sheet's network, loaded into a lent slice in the packed layout, at any width, and the lengths of its edges.
 mod edges;
 mod fill;
 mod layers;
@@ -7,6 +7,7 @@ pub mod limits;
 mod numbers;
 mod pack;
 mod planning;
+mod widths;
 
 use crate::fill::fill;
 use crate::numbers::number;
@@ -20,6 +21,7 @@ use network::layout::STRIDE;
 use sheet::layout::WIDTH;
 use sheet::limits::MAX_LAYERS;
 use sheet::limits::MAX_NUMBERS;
+pub use widths::set_width;
 ghost use mathlib.Core.Path.{_≡_};
 ghost use lib.ListN.{length};
 ghost use Rattle.leb128.specs.Format.Result.{elements};
