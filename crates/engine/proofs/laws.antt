@@ -1,4 +1,5 @@
 pub mod Numbers
+pub mod Widths
 pub mod Fits
 pub mod Finish
 pub mod Draw

@@ -1,5 +1,6 @@
 pub mod Refusals
 pub mod Draws
+pub mod MinimumWidth
 pub mod Answers
 pub mod inside
 pub mod laws

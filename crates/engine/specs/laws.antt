@@ -4,3 +4,4 @@ pub mod Refusals
 pub mod Totals
 pub mod Table
 pub mod Assigned
+pub mod MinimumWidth

@@ -1,12 +1,15 @@
-// Drawing a sheet: the leftmost least drawing, its total and the list that shows the total to be least.
+// Drawing a sheet: the leftmost least drawing, its total and the list that shows the total to be least; and the minimum width at
+// which a sheet can be drawn.
 mod limits;
 mod refusals;
 mod results;
 mod stages;
+mod widths;
 
 use crate::limits::MAX_NODE_NUMBERS;
 use crate::refusals::refused;
 use crate::stages::draw_within;
+use crate::widths::narrow;
 use arcs::Counts;
 use arcs::Loaded;
 use arcs::limits::MAX_ARCS;
@@ -17,6 +20,7 @@ use leb128::refusals::SLICE_SHORT;
 ghost use Rattle.sheet.specs.Reading.{«read-sheet»};
 ghost use Rattle.arcs.specs.laws.HeldArcs.{Holds};
 ghost use Rattle.engine.specs.Draws.{result, Draws};
+ghost use Rattle.engine.specs.MinimumWidth.{narrowing, Narrows};
 ghost use Rattle.engine.specs.inside.Stages.{DrawsHeld};
 
 // The total, or the refusal.
@@ -38,7 +42,30 @@ pub fn draw(bytes: &[u8], places: &mut [u16], list: &mut [i32]) -> Answer
     }
 }
 
-// The same of a sheet's packed arcs, whatever the width that they were loaded with.
+// A width, and the least total at it.
+pub struct Narrowest {
+    pub width: u16,
+    pub total: u32,
+}
+
+// The minimum width with its total, or the refusal.
+pub enum Minimum {
+    Found(Narrowest),
+    Refused(Refusal),
+}
+
+// The least width at which a sheet can be drawn, whatever width it has, and the least total at that width; or the refusal.
+pub fn minimum_width(bytes: &[u8]) -> Minimum
+    ensures { λ r. ⌜ Narrows (read-sheet (now (bytes .entry))) (narrowing r) ⌝ }
+{
+    let mut arcs = [0u32; MAX_ELEMENTS];
+    match arcs::load(bytes, &mut arcs) {
+        Loaded::Refused(r) => Minimum::Refused(r),
+        Loaded::Sheet(counts) => narrow(&mut arcs, counts),
+    }
+}
+
+// Draws a sheet's packed arcs, whatever the width that they were loaded with.
 fn draw_loaded(arcs: &[u32], counts: Counts, places: &mut [u16], list: &mut [i32]) -> Answer
     requires { ⌜ Holds (now arcs) counts ⌝ }
     ensures { λ r. ⌜ DrawsHeld (now (arcs .entry)) counts (now (places .entry)) (now (list .entry))

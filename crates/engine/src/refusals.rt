@@ -10,6 +10,9 @@ ghost use Rattle.engine.specs.Refusals.{«finding-refusal»};
 // No drawing exists.
 pub const NO_DRAWING: u8 = 8;
 
+// No width within the limit has a drawing.
+pub const NO_WIDTH: u8 = 10;
+
 // The refusal of a good sheet, at offset 0.
 pub fn refused(number: u8) -> Answer
     ensures { λ r. ⌜ r ≡ Answer.Refused (refusal number 0) ⌝ }

@@ -10,10 +10,8 @@ use Rattle.leb128.specs.Source.{refusal}
 use Rattle.leb128.specs.Format.{Result}
 use Rattle.leb128.specs.declared.Refusal.{Refusal}
 use Rattle.sheet.specs.Reading.{read-sheet}
-use Rattle.network.specs.Network.{Network, Feasible, integers}
 use Rattle.network.specs.Net.{at, net, meant}
 use Rattle.drawing.specs.Sheet.{sheet-of}
-use Rattle.drawing.specs.laws.SameDrawings.{drawing-feasible}
 use Rattle.circulation.specs.Nodes.{node-stride, potentials}
 use Rattle.circulation.specs.Solutions.{Solution}
 use Rattle.leftmost.specs.Solutions.{Taken, SomeFeasible, finding, Means}
@@ -28,7 +26,7 @@ use Rattle.engine.specs.Draws.Refuses.{few-places, few-numbers, none}
 use Rattle.engine.specs.inside.Stages.{DrawsHeld, Settled}
 use Rattle.engine.specs.declared.Answer.{Answer}
 use Rattle.engine.specs.declared.Answer.the-variants.{Refused}
-use Rattle.engine.proofs.laws.Fits.{meant-is, taken}
+use Rattle.engine.proofs.laws.Fits.{meant-feasible, taken}
 
 module _ {a : List ℕ} {c : Counts} (p : List ℕ) (y : List ℤ) where
   -- too few places
@@ -54,12 +52,7 @@ module _ {a : List ℕ} {c : Counts} (p : List ℕ) (y : List ℤ) where
   none-drawn e i j f h =
       subst (λ (r : Answer). DrawsSheet (sheet-of (h .numbers)) p y p y (result r)) (sym e) (
         none (record { nodes = omega (arith, h .nodes-are); numbers = omega (arith, size-is h) })
-            (λ q d. f (record {
-              start = q;
-              feasible =
-                  subst (λ (N : Network). Feasible N (integers q)) (sym (meant-is h))
-                  (drawing-feasible (sheet-of (h .numbers)) q d);
-            })),
+            (λ q d. f (record { start = q; feasible = meant-feasible h q d })),
         refl,
         (refl, refl),
       )

@@ -9,7 +9,7 @@ use borrow.Author.Tests.{ne-eqb}
 use lib.Dec.{T}
 use lib.IntN.{ℤ, pos, negsuc, _-ℤ_}
 use Rattle.network.specs.Sums.{all}
-use Rattle.network.specs.Network.{limit, Arc, Network}
+use Rattle.network.specs.Network.{limit, Arc, Network, Feasible, integers}
 use Rattle.network.specs.Packed.{stride, kink-at, low-at, high-at, kink-zero, flow-zero, low-none, high-none, low-of, high-of}
 use Rattle.network.specs.Packed.{arc-at, network-of}
 use Rattle.network.specs.Net.{at, net, meant}
@@ -21,7 +21,9 @@ use Rattle.network.specs.laws.IntegerParts.{less-parts}
 use Rattle.network.specs.laws.Hanging.{Hangs}
 use Rattle.drawing.specs.laws.Hanging.{sheet-hangs}
 use Rattle.drawing.specs.Sheet.{sheet-of}
+use Rattle.drawing.specs.Drawing.{Drawing}
 use Rattle.drawing.specs.Arcs.{network}
+use Rattle.drawing.specs.laws.SameDrawings.{drawing-feasible}
 use Rattle.drawing.specs.laws.ArcLimits.{low-near, high-near, near, Near, near-parts, network-near}
 use Rattle.arcs.specs.declared.Counts.{Counts}
 use Rattle.arcs.specs.laws.HeldArcs.{Holds, proper, size-is, arcs-there, network-is}
@@ -66,6 +68,12 @@ meant-is {a} {c} h = ap (λ (k : ℕ). network-of a k (c .arcs)) less-one ∙ ne
   where
     less-one : c .nodes + 1 - 1 ≡ c .nodes
     less-one = omega arith
+
+-- so a drawing is feasible there
+pub meant-feasible : {a : List ℕ} {c : Counts} (h : Holds a c) (q : List ℕ) → Drawing (sheet-of (h .numbers)) q
+    → Feasible (meant (net a (c .arcs)) (c .nodes + 1)) (integers q)
+meant-feasible h q d =
+    subst (λ (N : Network). Feasible N (integers q)) (sym (meant-is h)) (drawing-feasible (sheet-of (h .numbers)) q d)
 
 module _ {a : List ℕ} {c : Counts} (h : Holds a c) where
   -- few nodes
