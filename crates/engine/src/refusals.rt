@@ -1,11 +1,12 @@
 // Refusals of a good sheet.
 use crate::Answer;
+use crate::Minimum;
 use leb128::Refusal;
 use leftmost::Answer as Finding;
 ghost use mathlib.Core.Path.{_≡_};
 ghost use Rattle.leb128.specs.Source.{refusal};
 ghost use Rattle.leftmost.specs.Solutions.{finding};
-ghost use Rattle.engine.specs.Refusals.{«finding-refusal»};
+ghost use Rattle.engine.specs.Refusals.{«no-width», «finding-refusal»};
 
 // No drawing exists.
 pub const NO_DRAWING: u8 = 8;
@@ -19,6 +20,16 @@ pub fn refused(number: u8) -> Answer
 {
     Answer::Refused(Refusal {
         number: number,
+        offset: 0,
+    })
+}
+
+// The refusal of a sheet that no width within the limit can hold.
+pub fn no_width() -> Minimum
+    ensures { λ r. ⌜ r ≡ Minimum.Refused (refusal no-width 0) ⌝ }
+{
+    Minimum::Refused(Refusal {
+        number: NO_WIDTH,
         offset: 0,
     })
 }

@@ -4,43 +4,27 @@ use crate::Minimum;
 use crate::Narrowest;
 use crate::draw_loaded;
 use crate::limits::MAX_GROUNDED;
-use crate::refusals::NO_WIDTH;
+use crate::refusals::no_width;
 use arcs::Counts;
 use arcs::limits::MAX_ARCS;
 use arcs::set_width;
 use difference::Answer as Finding;
 use difference::least;
-use leb128::Refusal;
 use sheet::limits::MAX_NODES;
 use sheet::limits::MAX_WIDTH;
 ghost use mathlib.Core.Path.{_≡_};
 ghost use Prim.Native.Nat.{_≤_, _<_, max};
 ghost use Rattle.leb128.specs.Limits.{«list-limit»};
-ghost use Rattle.leb128.specs.Source.{refusal};
 ghost use Rattle.sheet.specs.Limits.{«max-width»};
 ghost use Rattle.drawing.specs.Widths.{greatest};
 ghost use Rattle.arcs.specs.Widths.{widened};
 ghost use Rattle.arcs.specs.laws.HeldArcs.{Holds};
-ghost use Rattle.engine.specs.Refusals.{«no-width»};
 ghost use Rattle.engine.specs.Draws.{result};
 ghost use Rattle.engine.specs.MinimumWidth.{narrowing};
 ghost use Rattle.engine.specs.inside.Widths.{TotalHeld, NarrowsHeld, LowestHeld};
 
 // The greatest width that a sheet may have.
 const WIDEST: u16 = MAX_WIDTH as u16;
-
-// The total of a sheet's packed arcs at a width, or that there is no drawing; the arcs stay at that width.
-pub fn total_at(arcs: &mut [u32], counts: Counts, width: u16) -> Answer
-    requires { ⌜ Holds (now arcs) counts ⌝ }
-    requires { ⌜ width ≤ max-width ⌝ }
-    ensures answer { λ r. ⌜ TotalHeld (now (arcs .entry)) counts width (result r) ⌝ }
-    ensures slice { λ r. ⌜ now (arcs .exit) ≡ widened (counts .nodes) width (now (arcs .entry)) ⌝ }
-{
-    let mut places = [0u16; MAX_NODES as usize];
-    let mut list = [0i32; MAX_ARCS];
-    set_width(arcs, counts.nodes, width);
-    draw_loaded(arcs, counts, &mut places, &mut list)
-}
 
 // The minimum width of a sheet's packed arcs, and the total at it.
 pub fn narrow(arcs: &mut [u32], counts: Counts) -> Minimum
@@ -73,6 +57,19 @@ fn narrow_to(arcs: &mut [u32], counts: Counts, low: &[u32]) -> Minimum
     }
 }
 
+// The total of a sheet's packed arcs at a width, or that there is no drawing; the arcs stay at that width.
+fn total_at(arcs: &mut [u32], counts: Counts, width: u16) -> Answer
+    requires { ⌜ Holds (now arcs) counts ⌝ }
+    requires { ⌜ width ≤ max-width ⌝ }
+    ensures answer { λ r. ⌜ TotalHeld (now (arcs .entry)) counts width (result r) ⌝ }
+    ensures slice { λ r. ⌜ now (arcs .exit) ≡ widened (counts .nodes) width (now (arcs .entry)) ⌝ }
+{
+    let mut places = [0u16; MAX_NODES as usize];
+    let mut list = [0i32; MAX_ARCS];
+    set_width(arcs, counts.nodes, width);
+    draw_loaded(arcs, counts, &mut places, &mut list)
+}
+
 // The greatest of numbers that fit 16 bits, 0 where there are none.
 fn greatest(numbers: &[u32]) -> u16
     requires { ⌜ greatest (now numbers) < list-limit ⌝ }
@@ -95,14 +92,4 @@ fn greater(a: u32, b: u32) -> u32
         return b;
     }
     a
-}
-
-// The refusal of a sheet that no width within the limit can hold.
-fn no_width() -> Minimum
-    ensures { λ r. ⌜ r ≡ Minimum.Refused (refusal no-width 0) ⌝ }
-{
-    Minimum::Refused(Refusal {
-        number: NO_WIDTH,
-        offset: 0,
-    })
 }
