@@ -5,3 +5,4 @@ pub mod Totals
 pub mod Table
 pub mod Assigned
 pub mod MinimumWidth
+pub mod WidthTable

@@ -20,7 +20,8 @@ use Rattle.drawing.specs.Sheet.{Sheet}
 use Rattle.drawing.specs.Drawing.{NoDrawing}
 use Rattle.drawing.specs.Arcs.{edge-arc-between, maximum-arc, network}
 use Rattle.drawing.specs.Certificate.{EdgeTerm, LayerTerm, certificate, meets-rules, bound}
-use Rattle.drawing.specs.laws.Terms.{edge-flow, minimum-flow, maximum-flow, left-flow, right-flow, layer-flows, layer-all, network-all}
+use Rattle.drawing.specs.laws.Terms.{edge-flow, minimum-flow, maximum-flow, left-flow, right-flow, layer-flows}
+use Rattle.drawing.specs.laws.Terms.{layer-all, network-all}
 use Rattle.drawing.specs.laws.SameRules.{same-rules, same-bound}
 use Rattle.drawing.specs.laws.SameDrawings.{drawing-feasible}
 
@@ -63,7 +64,8 @@ hard-layer : (width ground : ℕ) (l : LayerTerm)
 hard-layer width ground l =
     layer-all width ground (λ f. allowed (hard-flow f)) l
     ∙ ap (λ (b : Bool). allowed (left-flow ground l) && (b && allowed (right-flow width ground l)))
-    (all-ext (λ x. allowed (hard-flow (minimum-flow x)) && allowed (hard-flow (maximum-flow x))) (λ x. allowed (minimum-flow x) && allowed (maximum-flow x))
+    (all-ext (λ x. allowed (hard-flow (minimum-flow x)) && allowed (hard-flow (maximum-flow x)))
+    (λ x. allowed (minimum-flow x) && allowed (maximum-flow x))
     (λ x. ap (λ (b : Bool). allowed (minimum-flow x) && b) (hard-maximum (x .pair .maximum) (x .pair .left) (x .maximum))) (l .pairs))
     ∙ sym (layer-all width ground allowed l)
 
@@ -115,9 +117,11 @@ module _ (S : Sheet) (y : List ℤ) (t : T (shows-none S y)) where
   unfolding refutes rules network-bound
   hard-refutes =
       and-both (rules (hard (network S)) y) (ltZ (pos 0) (network-bound (hard (network S)) y))
-      (and-both (all allowed (flows (hard (network S) .arcs) y)) (balanced (network S .nodes) (flows (hard (network S) .arcs) y)) hard-allowed
+      (and-both (all allowed (flows (hard (network S) .arcs) y)) (balanced (network S .nodes) (flows (hard (network S) .arcs) y))
+      hard-allowed
       (subst T
-      (sym (below-ext (λ v. eqZ (sum (inflow v) (flows (hard (network S) .arcs) y)) (pos 0)) (λ v. eqZ (sum (inflow v) sheet-flows) (pos 0)) (network S .nodes)
+      (sym (below-ext (λ v. eqZ (sum (inflow v) (flows (hard (network S) .arcs) y)) (pos 0))
+      (λ v. eqZ (sum (inflow v) sheet-flows) (pos 0)) (network S .nodes)
       (λ v h. ap (λ (z : ℤ). eqZ z (pos 0)) (hard-sum (inflow v)))))
       (and-right (all allowed sheet-flows) (balanced (network S .nodes) sheet-flows) rule)))
       (subst (λ (z : ℤ). T (ltZ (pos 0) z)) (sym (hard-sum bound-term ∙ same-bound S y)) (and-right idle above rest))

@@ -90,7 +90,8 @@ unfolding both crossed
 maximum-apart least n ok pos =
     ⊎-elim
     (λ (below : n < least).
-    let e = rw (eq-eqb (within 0 max-separation n) 0 (both-zero (within 0 max-separation) (crossed least) n ok), ne-eqb n 0 (omega arith), lt-ltb n least below) at ok in
+    let in-limits = eq-eqb (within 0 max-separation n) 0 (both-zero (within 0 max-separation) (crossed least) n ok) in
+    let e = rw (in-limits, ne-eqb n 0 (omega arith), lt-ltb n least below) at ok in
     let z : _≡_ {A = ℕ} separations-crossed 0 = e in absurd (omega arith))
     (λ (h : least ≤ n). h)
     (lt-or-le n least)
@@ -129,7 +130,8 @@ each-layers (suc n) room m bound counts more h c s =
     let left : ℕ = bound - layer-size nodes in
     each-more (omega (arith, l))
     (each-separations (nodes - 1) left
-    (each-layers n (room - nodes) m left (counts ++ nodes ∷ []) (omega arith) (omega (arith, l)) (counts-more counts nodes c (omega (arith, l)))
+    (each-layers n (room - nodes) m left (counts ++ nodes ∷ []) (omega arith) (omega (arith, l))
+    (counts-more counts nodes c (omega (arith, l)))
     (λ all e d. s all (omega (arith, length-append counts (nodes ∷ []))) d)))
 
 -- the edges
@@ -151,6 +153,7 @@ each-sheet =
     first (omega arith) (limited 0 max-width (omega arith)) λ width low.
     first (omega arith) (limited 1 max-layers (omega arith)) λ n ok.
     let l = within-limits 1 max-layers n ok in
-    each-layers n max-nodes (edges-at + edge-stride * max-edges) (max-numbers - first-layer-at) [] (omega (arith, l)) (omega (arith, l)) (λ i. omega arith) λ counts e c.
+    each-layers n max-nodes (edges-at + edge-stride * max-edges) (max-numbers - first-layer-at) [] (omega (arith, l)) (omega (arith, l))
+    (λ i. omega arith) λ counts e c.
     first (omega arith) (limited 0 max-edges (omega arith)) λ m fine.
     each-more (omega (arith, within-limits 0 max-edges m fine)) (each-edges m counts (omega (arith, l)) c)

@@ -94,7 +94,8 @@ read-alike one other e = sym (first-bytes one) ∙ (ap read-sheet e ∙ first-by
 -- the rules of a sheet's numbers give refusals of P, where those of a number are
 number-rules : (P : ℕ → Type 0) → ((n : ℕ) → NumberRefusal n → P n) → Each (Gives P) max-numbers sheet
 number-rules P f =
-    each-map (λ form rule p n. ⊎-elim (λ (z : rule n ≡ 0). inl z) (λ (w : NumberRefusal (rule n)). inr (f (rule n) w)) (p .gives n)) each-sheet
+    each-map
+    (λ form rule p n. ⊎-elim (λ (z : rule n ≡ 0). inl z) (λ (w : NumberRefusal (rule n)). inr (f (rule n) w)) (p .gives n)) each-sheet
 
 -- the writer gives refusals 1, 4, 5, 6 and 7 only
 pub writer-refusals : (numbers : List ℕ) (room : ℕ) (r : Refusal)
