@@ -7,18 +7,18 @@ ghost use Prim.Native.Nat.{_<_};
 ghost use Rattle.leb128.specs.Format.{outcome};
 ghost use Rattle.checker.specs.Verdict.{judgement};
 ghost use Rattle.engine.specs.Draws.{result};
-ghost use Rattle.strip.specs.Words.{unit, packed, «outcome-word», «drawn-word», «judgement-word»};
+ghost use Rattle.strip.specs.Words.{«number-unit», packed, «outcome-word», «drawn-word», «judgement-word»};
 ghost use Rattle.strip.specs.HeldWords.{HeldJudgement, HeldDrawn, HeldOutcome};
 
 // What one more in the refusal's number adds: 2³².
-const UNIT: u64 = 4294967296;
+const NUMBER_UNIT: u64 = 4294967296;
 
 // A refusal's number, 0 where nothing is refused, and a value or an offset.
 fn word(number: u8, value: usize) -> u64
-    requires { ⌜ value < unit ⌝ }
-    ensures { λ r. ⌜ r ≡ packed number value ⌝ }
+    requires { ⌜ value < number-unit ⌝ }
+    ensures { λ r. ⌜ r ≡ packed 0 number value ⌝ }
 {
-    number as u64 * UNIT + value as u64
+    number as u64 * NUMBER_UNIT + value as u64
 }
 
 // The answer of reading or writing.

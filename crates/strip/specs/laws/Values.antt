@@ -1,5 +1,5 @@
--- A word holds every answer: each value and each offset is below 2³², since a walk ends within the longest sheet, and each
--- refusal has a number.
+-- A word holds every answer: each value and each offset is below 2³², since a walk ends within the longest sheet, and each second
+-- value and each refusal's number is below 2¹⁶.
 use Prim.Native.Nat.{ℕ, _≤_, _<_}
 use mathlib.Core.Path.{_≡_, refl}
 use mathlib.Core.Logic.{⊎-elim}
@@ -24,20 +24,30 @@ use Rattle.checker.specs.laws.Refusals.{check-refusals}
 use Rattle.engine.specs.Draws.{Drawn, Draws}
 use Rattle.engine.specs.laws.Refusals.{draw-refusals}
 use Rattle.engine.specs.laws.Totals.{drawn-total}
-use Rattle.strip.specs.Words.{unit}
-use Rattle.strip.specs.HeldWords.{HeldRefusal, HeldOutcome, HeldDrawn, HeldJudgement}
+use Rattle.strip.specs.Words.{number-unit, part-range, alone}
+use Rattle.strip.specs.HeldWords.{HeldRefusal, HeldResult, HeldOutcome, HeldDrawn, HeldJudgement}
 
 -- a refusal of a call that reads a sheet's bytes
-given-held : {most : ℕ} {r : Refusal} → RefusalTo most r → HeldRefusal r
-given-held g = record { numbered = g .number-in .0; offset-in = omega (arith, g .offset-in) }
+given-held : {most : ℕ} {r : Refusal} → most < part-range → RefusalTo most r → HeldRefusal r
+given-held m g =
+    record {
+      numbered = g .number-in .0;
+      number-in = omega (arith, m, g .number-in .1);
+      offset-in = omega (arith, g .offset-in);
+    }
+
+-- a result that is one number
+alone-held : {n : ℕ} → n < number-unit → HeldResult (alone n)
+alone-held h = record { second-in = omega arith; value-in = h }
 
 -- elements are counted, or have no room
-elements-held : (room : ℕ) (es : List ℕ) → length es < unit → HeldOutcome (answered room (elements es))
+elements-held : (room : ℕ) (es : List ℕ) → length es < number-unit → HeldOutcome (answered room (elements es))
 unfolding answered
 elements-held room es h =
     ⊎-elim
-    (λ (k : room < length es). rw (lt-ltb room (length es) k) (record { numbered = omega arith; offset-in = omega arith }))
-    (λ (k : length es ≤ room). rw (le-ltb room (length es) k) h)
+    (λ (k : room < length es). rw (lt-ltb room (length es) k)
+    (record { numbered = omega arith; number-in = omega arith; offset-in = omega arith }))
+    (λ (k : length es ≤ room). rw (le-ltb room (length es) k) (alone-held h))
     (lt-or-le room (length es))
 
 -- a refusal is answered as it is
@@ -56,7 +66,7 @@ reading-held bytes room = go (read-sheet bytes) refl
   where
     go : (read : Result) → read-sheet bytes ≡ read → HeldOutcome (answered room read)
     go (elements numbers) e = elements-held room numbers (omega (arith, most-numbers numbers (read-accepted bytes numbers e)))
-    go (Result.refused r) e = refused-held room r (given-held (reader-refusals bytes r e))
+    go (Result.refused r) e = refused-held room r (given-held (omega arith) (reader-refusals bytes r e))
 
 -- of writing
 pub writing-held : (numbers : List ℕ) (room : ℕ) → HeldOutcome (answered room (write-sheet numbers))
@@ -66,7 +76,7 @@ writing-held numbers room = go (write-sheet numbers) refl
     go (elements bytes) e = elements-held room bytes (omega (arith, most-bytes bytes numbers (read-written numbers bytes e)))
     go (Result.refused r) e =
         refused-held room r
-        (given-held {most = slice-short}
+        (given-held {most = slice-short} (omega arith)
         (record {
           number-in = writer-given (writer-refusals numbers room r (rw e (refused-answer room r)));
           offset-in = omega (arith, writer-offsets numbers r e);
@@ -75,14 +85,14 @@ writing-held numbers room = go (write-sheet numbers) refl
 -- of drawing
 pub drawing-held : (bytes p₀ : List ℕ) (y₀ : List ℤ) (p : List ℕ) (y : List ℤ) (d : Drawn)
     → Draws (read-sheet bytes) p₀ y₀ p y d → HeldDrawn d
-drawing-held bytes p₀ y₀ p y (Reply.value total) h = omega (arith, drawn-total bytes p₀ y₀ p y total h)
-drawing-held bytes p₀ y₀ p y (Reply.refused r) h = given-held (draw-refusals bytes p₀ y₀ p y r h)
+drawing-held bytes p₀ y₀ p y (Reply.value total) h = alone-held (omega (arith, drawn-total bytes p₀ y₀ p y total h))
+drawing-held bytes p₀ y₀ p y (Reply.refused r) h = given-held (omega arith) (draw-refusals bytes p₀ y₀ p y r h)
 
 -- of checking
 pub checking-held : (bytes places : List ℕ) (list : List ℤ) → HeldJudgement (check-answer (read-sheet bytes) places list)
 checking-held bytes places list = go (check-answer (read-sheet bytes) places list) refl
   where
     go : (j : Reply Bool) → check-answer (read-sheet bytes) places list ≡ j → HeldJudgement j
-    go (Reply.value true) e = omega arith
-    go (Reply.value false) e = omega arith
-    go (Reply.refused r) e = given-held (check-refusals bytes places list r e)
+    go (Reply.value true) e = alone-held (omega arith)
+    go (Reply.value false) e = alone-held (omega arith)
+    go (Reply.refused r) e = given-held (omega arith) (check-refusals bytes places list r e)

@@ -11,7 +11,7 @@ enum-known-answer c = search needs
 
 word-requires : tie.Need-word-requires
 unfolding outcome
-word-requires c κs = rw (c .before .answer .given .1) at (c .before .before .before .pre)
+word-requires c κs = (rw (c .before .answer .given .1) at (c .before .before .before .pre)) .value-in
 
 enum-known-answer-2 : tie.Need-enum-known-answer-2
 enum-known-answer-2 c = search needs

@@ -13,7 +13,7 @@ cast-word c = search needs
 
 word-requires : tie.Need-word-requires
 unfolding result
-word-requires c κs = rw (c .before .drawing .given .1) at (c .before .before .before .pre)
+word-requires c κs = (rw (c .before .drawing .given .1) at (c .before .before .before .pre)) .value-in
 
 enum-known-drawing-2 : tie.Need-enum-known-drawing-2
 enum-known-drawing-2 c = search needs
