@@ -11,12 +11,22 @@
 /* How many elements an array has. */
 #define COUNT(array) (sizeof(array) / sizeof(array)[0])
 
-/* That an answer is this refusal, in one number and in its two parts. */
+/* That an answer is this refusal, in one number and in its three parts. */
 #define REFUSED(answer, number, offset)                                                            \
     do {                                                                                           \
         uint64_t given = (answer);                                                                 \
         assert(given == (number) * UINT64_C(4294967296) + (offset));                               \
         assert(strip_refusal(given) == (number) && strip_value(given) == (offset));                \
+        assert(strip_second(given) == 0);                                                          \
+    } while (0)
+
+/* That an answer is this width and total, in one number and in its three parts. */
+#define NARROWEST(answer, width, total)                                                            \
+    do {                                                                                           \
+        uint64_t given = (answer);                                                                 \
+        assert(given == (width) * UINT64_C(281474976710656) + (total));                            \
+        assert(strip_second(given) == (width) && strip_value(given) == (total));                   \
+        assert(strip_refusal(given) == STRIP_OK);                                                  \
     } while (0)
 
 /* Document 01's first sheet, in bytes and in numbers, with its drawing and its list. */
@@ -69,6 +79,25 @@ static void answers(void) {
     assert(strip_check(first, COUNT(first), first_places, 3, first_list, 8) == 1);
     room.places[0] = 1;
     assert(strip_check(first, COUNT(first), room.places, 3, room.list, 8) == 0);
+    NARROWEST(strip_narrowest(first, COUNT(first)), 1, 1);
+}
+
+/* The minimum width of a sheet, whatever its own width is, and the least total there. */
+static void narrowest(void) {
+    const uint8_t one_node[] = {0x53, 0x50, 0x31, 0, 1, 1, 0};
+    uint8_t stair[] = {0x53, 0x50, 0x31, 0, 3, 2, 1, 0, 2, 1, 0, 2, 1, 0, 2,
+                       1,    2,    1,    0, 2, 2, 1, 0};
+    /* two layers of two nodes that are 4,095 apart, and edges from the left to the right */
+    const uint16_t widest[] = {9, 2, 2, 4095, 0, 2, 4095, 4095, 2, 1, 1, 2, 0, 1, 1, 2, 0};
+    uint64_t length;
+
+    NARROWEST(strip_narrowest(one_node, COUNT(one_node)), 0, 0);
+    for (stair[3] = 0; stair[3] < 5; stair[3]++)
+        NARROWEST(strip_narrowest(stair, COUNT(stair)), 1, 2);
+    stair[COUNT(stair) - 1] = 1;
+    NARROWEST(strip_narrowest(stair, COUNT(stair)), 2, 1);
+    length = strip_write(widest, COUNT(widest), room.sheet, STRIP_MAX_SHEET_BYTES);
+    NARROWEST(strip_narrowest(room.sheet, length), 4095, 8190);
 }
 
 /* Document 01's example of each refusal, by name and by number. */
@@ -81,6 +110,7 @@ static void refusals(void) {
     const uint8_t follows[] = {0x53, 0x50, 0x31, 0x00, 0x01, 0x01, 0x00, 0x00};
     const uint8_t one_node[] = {0x53, 0x50, 0x31, 0x00, 0x01, 0x01, 0x00};
     const uint8_t no_drawing[] = {0x53, 0x50, 0x31, 0x00, 0x01, 0x02, 0x01, 0x00, 0x00};
+    const uint8_t no_width[] = {0x53, 0x50, 0x31, 0, 1, 3, 0xff, 0x1f, 0, 0xff, 0x1f, 0, 0};
 
     paint();
     REFUSED(draw(ended, COUNT(ended)), STRIP_INPUT_ENDED, 2);
@@ -92,17 +122,28 @@ static void refusals(void) {
     REFUSED(strip_draw(one_node, COUNT(one_node), room.places, 0, room.list, 2),
             STRIP_SLICE_SHORT, 0);
     REFUSED(draw(no_drawing, COUNT(no_drawing)), STRIP_NO_DRAWING, 0);
+    REFUSED(strip_narrowest(ended, COUNT(ended)), STRIP_INPUT_ENDED, 2);
+    REFUSED(strip_narrowest(other, COUNT(other)), STRIP_NOT_A_SHEET, 0);
+    REFUSED(strip_narrowest(form, COUNT(form)), STRIP_NUMBER_FORM, 3);
+    REFUSED(strip_narrowest(outside, COUNT(outside)), STRIP_OUTSIDE_LIMITS, 4);
+    REFUSED(strip_narrowest(crossed, COUNT(crossed)), STRIP_SEPARATIONS_CROSSED, 7);
+    REFUSED(strip_narrowest(follows, COUNT(follows)), STRIP_SOMETHING_FOLLOWS, 7);
+    REFUSED(strip_narrowest(no_width, COUNT(no_width)), STRIP_NO_WIDTH, 0);
+    NARROWEST(strip_narrowest(no_drawing, COUNT(no_drawing)), 1, 0);
     assert(untouched());
     assert(STRIP_OK == 0 && STRIP_INPUT_ENDED == 1 && STRIP_NOT_A_SHEET == 2);
     assert(STRIP_NUMBER_FORM == 3 && STRIP_OUTSIDE_LIMITS == 4 && STRIP_SEPARATIONS_CROSSED == 5);
     assert(STRIP_SOMETHING_FOLLOWS == 6 && STRIP_SLICE_SHORT == 7 && STRIP_NO_DRAWING == 8);
+    assert(STRIP_NO_WIDTH == 10);
 }
 
-/* The two parts of an answer fill 32 bits each. */
+/* The parts of an answer: 16 bits, 16 bits and 32 bits. */
 static void parts(void) {
-    assert(strip_refusal(UINT64_C(0x89abcdef01234567)) == UINT32_C(0x89abcdef));
+    assert(strip_second(UINT64_C(0x89abcdef01234567)) == UINT32_C(0x89ab));
+    assert(strip_refusal(UINT64_C(0x89abcdef01234567)) == UINT32_C(0xcdef));
     assert(strip_value(UINT64_C(0x89abcdef01234567)) == UINT32_C(0x01234567));
-    assert(strip_refusal(UINT64_C(0x00000000ffffffff)) == 0);
+    assert(strip_second(UINT64_C(0x0000ffffffffffff)) == 0);
+    assert(strip_refusal(UINT64_C(0xffff0000ffffffff)) == 0);
     assert(strip_value(UINT64_C(0xffffffff00000000)) == 0);
 }
 
@@ -127,6 +168,7 @@ static void empty_slices(void) {
     REFUSED(strip_check(first, length, NULL, 0, NULL, 0), 7, 0);
     REFUSED(strip_check(first, length, NULL, 0, first_list, 8), 7, 0);
     REFUSED(strip_check(first, length, first_places, 3, NULL, 0), 7, 0);
+    REFUSED(strip_narrowest(NULL, 0), 1, 0);
     assert(untouched());
 }
 
@@ -179,6 +221,8 @@ static void greatest_sizes(void) {
     assert(strip_refusal(draw(room.sheet, length)) == STRIP_OK);
     assert(strip_check(room.sheet, length, room.places, STRIP_MAX_PLACES, room.list,
                        STRIP_MAX_LIST) == 1);
+    answer = strip_narrowest(room.sheet, length);
+    assert(strip_refusal(answer) == STRIP_OK && strip_second(answer) == 126);
 }
 
 /* A sheet that several threads draw, and what they must find. */
@@ -186,6 +230,7 @@ struct shared {
     uint8_t sheet[STRIP_MAX_SHEET_BYTES];
     size_t sheet_len;
     uint64_t answer;
+    uint64_t narrowest;
     uint16_t places[STRIP_MAX_PLACES];
 };
 static struct shared shared[2];
@@ -202,6 +247,7 @@ static void prepare(uint16_t width, struct shared *s) {
     s->sheet_len = strip_write(numbers, count, s->sheet, STRIP_MAX_SHEET_BYTES);
     s->answer = draw(s->sheet, s->sheet_len);
     assert(strip_refusal(s->answer) == STRIP_OK);
+    s->narrowest = strip_narrowest(s->sheet, s->sheet_len);
     memcpy(s->places, room.places, sizeof s->places);
 }
 
@@ -219,6 +265,7 @@ static void *draw_by_turns(void *nothing) {
         assert(memcmp(places, s->places, sizeof places) == 0);
         assert(strip_check(s->sheet, s->sheet_len, places, STRIP_MAX_PLACES, list,
                            STRIP_MAX_LIST) == 1);
+        assert(strip_narrowest(s->sheet, s->sheet_len) == s->narrowest);
     }
     return nothing;
 }
@@ -231,6 +278,8 @@ static void threads(void) {
     prepare(400, &shared[0]);
     prepare(126, &shared[1]);
     assert(shared[0].answer != shared[1].answer);
+    NARROWEST(shared[0].narrowest, 126, strip_value(shared[1].answer));
+    assert(shared[0].narrowest == shared[1].narrowest);
     assert(pthread_barrier_init(&start, NULL, THREADS) == 0);
     for (i = 0; i < THREADS; i++)
         assert(pthread_create(&thread[i], NULL, draw_by_turns, NULL) == 0);
@@ -241,11 +290,12 @@ static void threads(void) {
 /* Runs all of it, and says so. */
 int main(void) {
     answers();
+    narrowest();
     refusals();
     parts();
     empty_slices();
     greatest_sizes();
     threads();
-    puts("all as document 01 says");
+    puts("all as documents 01 and 02 say");
     return 0;
 }

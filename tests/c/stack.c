@@ -48,6 +48,11 @@ static void call_check(void) {
     answer = strip_check(sheet, sheet_len, places, STRIP_MAX_PLACES, list, STRIP_MAX_LIST);
 }
 
+/* Tells the minimum width of the sheet. */
+static void call_narrowest(void) {
+    answer = strip_narrowest(sheet, sheet_len);
+}
+
 /* How many bytes of stack a call uses. */
 static size_t use(void (*call)(void)) {
     static unsigned char stack[ROOM];
@@ -84,7 +89,7 @@ static uint32_t measure(void (*call)(void), size_t *greatest) {
     return strip_value(answer);
 }
 
-/* Runs all four functions on the sheet. */
+/* Runs all five functions on the sheet. */
 static void *run_all(void *nothing) {
     call_read();
     assert(strip_refusal(answer) == STRIP_OK);
@@ -95,10 +100,12 @@ static void *run_all(void *nothing) {
     assert(strip_refusal(answer) == STRIP_OK);
     call_check();
     assert(answer == 1);
+    call_narrowest();
+    assert(strip_refusal(answer) == STRIP_OK);
     return nothing;
 }
 
-/* Runs all four functions on a thread whose stack is no larger than strip.h asks for. */
+/* Runs all five functions on a thread whose stack is no larger than strip.h asks for. */
 static void run_on_thread(void) {
     pthread_attr_t attributes;
     pthread_t thread;
@@ -112,7 +119,7 @@ static void run_on_thread(void) {
 
 /* Takes the paths of sheets that have drawings. */
 int main(int count, char **paths) {
-    size_t read = 0, write = 0, draw = 0, check = 0;
+    size_t read = 0, write = 0, draw = 0, check = 0, narrowest = 0;
     int i;
 
     for (i = 1; i < count; i++) {
@@ -121,8 +128,10 @@ int main(int count, char **paths) {
         assert(measure(call_write, &write) == sheet_len);
         measure(call_draw, &draw);
         assert(measure(call_check, &check) == 1);
+        measure(call_narrowest, &narrowest);
         run_on_thread();
     }
     printf("read %zu\nwrite %zu\ndraw %zu\ncheck %zu\n", read, write, draw, check);
+    printf("narrowest %zu\n", narrowest);
     return 0;
 }

@@ -18,7 +18,7 @@ fn calls_from_c_are_answered() {
         compiler.arg("tests/c/calls.c").args(LIBRARY);
         output(compiler.arg("-pthread").arg("-o").arg(&program));
         let printed = output(&mut Command::new(program));
-        assert_eq!(printed, "all as document 01 says\n");
+        assert_eq!(printed, "all as documents 01 and 02 say\n");
     }
 }
 
@@ -65,6 +65,7 @@ fn wrapper_has_the_numbers_of_the_header() {
         ("SOMETHING_FOLLOWS", Refusal::SOMETHING_FOLLOWS),
         ("SLICE_SHORT", Refusal::SLICE_SHORT),
         ("NO_DRAWING", Refusal::NO_DRAWING),
+        ("NO_WIDTH", Refusal::NO_WIDTH),
         ("MAX_SHEET_BYTES", strip::MAX_SHEET_BYTES as u32),
         ("MAX_NUMBERS", strip::MAX_NUMBERS as u32),
         ("MAX_PLACES", strip::MAX_PLACES as u32),
@@ -76,9 +77,9 @@ fn wrapper_has_the_numbers_of_the_header() {
 }
 
 #[test]
-fn refusals_of_the_header_are_0_to_8_each_once() {
+fn refusals_of_the_header_are_0_to_8_and_10_each_once() {
     let numbers: Vec<u32> = refusals().iter().map(|&(_, number)| number).collect();
-    assert_eq!(numbers, [0, 1, 2, 3, 4, 5, 6, 7, 8]);
+    assert_eq!(numbers, [0, 1, 2, 3, 4, 5, 6, 7, 8, 10]);
 }
 
 /// The numbers of the header but those of its version.

@@ -140,7 +140,13 @@ fn installed_files_serve_and_go_again() {
     let names = exports(&place(&folder, "lib/libstrip.so.0"));
     assert_eq!(
         names,
-        ["strip_check", "strip_draw", "strip_read", "strip_write"]
+        [
+            "strip_check",
+            "strip_draw",
+            "strip_narrowest",
+            "strip_read",
+            "strip_write"
+        ]
     );
     check_shared(&folder);
     check_static(&folder);

@@ -1,11 +1,12 @@
 /*
- * Path strips: read, write, draw and check sheets.
+ * Path strips: read, write, draw and check sheets, and tell their minimum width.
  *
  * A slice is a pointer to its first element and the count of its elements. An answer is one number
  * of 64 bits: strip_refusal() is 0 where the call succeeded, and strip_value() is then its result.
  * Otherwise strip_refusal() says why there is none, and strip_value() where: the offset of a byte
- * in the sheet (for strip_write the index of a number), from 0. On a refusal no slice is written.
- * Elements behind the last one written keep their contents.
+ * in the sheet (for strip_write the index of a number), from 0. strip_second() is the second result
+ * of strip_narrowest; it is 0 on every refusal and in every other call. On a refusal no slice is
+ * written. Elements behind the last one written keep their contents.
  *
  * What the caller sees to: pointers are valid for as many elements as the count says, and aligned.
  * A slice that is written overlaps no other. A pointer may be NULL where the count is 0. Apart from
@@ -61,7 +62,9 @@ enum {
     /* A slice is too short for what is to be read or written there. */
     STRIP_SLICE_SHORT = 7,
     /* No drawing exists. */
-    STRIP_NO_DRAWING = 8
+    STRIP_NO_DRAWING = 8,
+    /* No width from 0 to 4,095 has a drawing. */
+    STRIP_NO_WIDTH = 10
 };
 
 /* Reads the number list of a sheet into the front of numbers. The value is the count of numbers.
@@ -86,14 +89,24 @@ uint64_t strip_check(const uint8_t *sheet, size_t sheet_len,
                      const uint16_t *places, size_t places_len,
                      const int32_t *list, size_t list_len);
 
+/* Tells the minimum width, the least at which the sheet has a drawing, whatever its own width is;
+ * and the least total at that width. The value is the total, strip_second() the width. Refusals 1
+ * to 6 and 10. */
+uint64_t strip_narrowest(const uint8_t *sheet, size_t sheet_len);
+
 /* The number of the refusal in an answer; 0 where the call succeeded. */
 static inline uint32_t strip_refusal(uint64_t answer) {
-    return (uint32_t)(answer >> 32);
+    return (uint32_t)(answer >> 32) & 0xFFFF;
 }
 
 /* The value in an answer: the result, or where the input is refused. */
 static inline uint32_t strip_value(uint64_t answer) {
     return (uint32_t)answer;
+}
+
+/* The second value in an answer: the minimum width of strip_narrowest; 0 elsewhere. */
+static inline uint32_t strip_second(uint64_t answer) {
+    return (uint32_t)(answer >> 48);
 }
 
 #ifdef __cplusplus

@@ -6,7 +6,8 @@ use Rattle.leb128.specs.declared.Refusal.{Refusal}
 use Rattle.leb128.specs.Format.{Outcome}
 use Rattle.leb128.specs.Reply.{Reply}
 use Rattle.engine.specs.Draws.{Drawn}
-use Rattle.strip.specs.Words.{number-unit, part-range, Told, alone, yes-no}
+use Rattle.engine.specs.MinimumWidth.{Narrowed}
+use Rattle.strip.specs.Words.{number-unit, part-range, Told, alone, yes-no, total-width}
 
 -- a refusal that a word holds
 pub record HeldRefusal (r : Refusal) : Type 0 where
@@ -36,3 +37,7 @@ HeldDrawn = HeldReply alone
 -- one of checking
 abbrev pub HeldJudgement : Reply Bool → Type 0
 HeldJudgement = HeldReply yes-no
+
+-- one of the minimum width
+abbrev pub HeldNarrowed : Narrowed → Type 0
+HeldNarrowed = HeldReply total-width

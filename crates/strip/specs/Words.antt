@@ -7,7 +7,9 @@ use lib.IntN.{ℤ}
 use Rattle.leb128.specs.declared.Refusal.{Refusal}
 use Rattle.leb128.specs.Format.{Result, Outcome}
 use Rattle.leb128.specs.Reply.{Reply}
+use Rattle.engine.specs.declared.Narrowest.{Narrowest}
 use Rattle.engine.specs.Draws.{Drawn, Draws}
+use Rattle.engine.specs.MinimumWidth.{Narrowed, Narrows}
 
 -- what one more in the refusal's number adds, 2³²: more than any value or offset
 abbrev pub number-unit : ℕ
@@ -50,6 +52,10 @@ alone n = record { second = 0; value = n }
 abbrev pub yes-no : Bool → Told
 yes-no b = alone (cond b 1 0)
 
+-- that of the minimum width: the total at it, and the width as the second value
+abbrev pub total-width : Narrowest → Told
+total-width n = record { second = n .width; value = n .total }
+
 -- a result
 abbrev pub told-word : Told → ℕ
 told-word t = packed (t .second) 0 (t .value)
@@ -76,6 +82,14 @@ drawn-word = reply-word alone
 abbrev pub judgement-word : Reply Bool → ℕ
 judgement-word = reply-word yes-no
 
+-- of the minimum width
+abbrev pub narrowed-word : Narrowed → ℕ
+narrowed-word = reply-word total-width
+
 -- a word tells what drawing a sheet answers, with the slices before and after
 abbrev pub DrawsWord : Result → List ℕ → List ℤ → List ℕ → List ℤ → ℕ → Type 0
 DrawsWord read p₀ y₀ p y word = (d : Drawn) × (word ≡ drawn-word d) × Draws read p₀ y₀ p y d
+
+-- a word tells what the minimum width of a sheet is
+abbrev pub NarrowsWord : Result → ℕ → Type 0
+NarrowsWord read word = (a : Narrowed) × (word ≡ narrowed-word a) × Narrows read a

@@ -2,3 +2,4 @@ pub mod CheckedLeast
 pub mod Refusals
 pub mod ReadBack
 pub mod Values
+pub mod Narrowest

@@ -1,16 +1,17 @@
-// The library for other languages: the four calls under C names, each with its answer in one word. Nothing but the lent
+// The library for other languages: the five calls under C names, each with its answer in one word. Nothing but the lent
 // slices is written.
 mod words;
 
 use crate::words::answer_word;
 use crate::words::drawing_word;
+use crate::words::minimum_word;
 use crate::words::verdict_word;
 ghost use mathlib.Core.Path.{_≡_};
 ghost use lib.ListN.{length};
 ghost use Rattle.leb128.specs.Format.{answered, filled};
 ghost use Rattle.sheet.specs.Reading.{«read-sheet», «write-sheet»};
 ghost use Rattle.checker.specs.Verdict.{«check-answer»};
-ghost use Rattle.strip.specs.Words.{«outcome-word», «judgement-word», DrawsWord};
+ghost use Rattle.strip.specs.Words.{«outcome-word», «judgement-word», DrawsWord, NarrowsWord};
 
 // Reads a sheet's bytes into the front of the numbers.
 #[no_mangle]
@@ -45,4 +46,12 @@ pub extern "C" fn strip_check(bytes: &[u8], places: &[u16], list: &[i32]) -> u64
     ensures { λ r. ⌜ r ≡ judgement-word (check-answer (read-sheet (now (bytes .entry))) (now (places .entry)) (now (list .entry))) ⌝ }
 {
     verdict_word(checker::check(bytes, places, list))
+}
+
+// Tells the least width at which a sheet can be drawn, whatever width it has, and the least total at that width.
+#[no_mangle]
+pub extern "C" fn strip_narrowest(bytes: &[u8]) -> u64
+    ensures { λ r. ⌜ NarrowsWord (read-sheet (now (bytes .entry))) r ⌝ }
+{
+    minimum_word(engine::minimum_width(bytes))
 }

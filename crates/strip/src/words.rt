@@ -1,17 +1,22 @@
 // Answers as words.
 use checker::Verdict;
 use engine::Answer as Drawing;
+use engine::Minimum;
 use leb128::Answer;
 ghost use mathlib.Core.Path.{_≡_};
 ghost use Prim.Native.Nat.{_<_};
 ghost use Rattle.leb128.specs.Format.{outcome};
 ghost use Rattle.checker.specs.Verdict.{judgement};
 ghost use Rattle.engine.specs.Draws.{result};
-ghost use Rattle.strip.specs.Words.{«number-unit», packed, «outcome-word», «drawn-word», «judgement-word»};
-ghost use Rattle.strip.specs.HeldWords.{HeldJudgement, HeldDrawn, HeldOutcome};
+ghost use Rattle.engine.specs.MinimumWidth.{narrowing};
+ghost use Rattle.strip.specs.Words.{«number-unit», packed, «outcome-word», «drawn-word», «judgement-word», «narrowed-word»};
+ghost use Rattle.strip.specs.HeldWords.{HeldJudgement, HeldDrawn, HeldNarrowed, HeldOutcome};
 
 // What one more in the refusal's number adds: 2³².
 const NUMBER_UNIT: u64 = 4294967296;
+
+// What one more in the second value adds: 2⁴⁸.
+const SECOND_UNIT: u64 = 281474976710656;
 
 // A refusal's number, 0 where nothing is refused, and a value or an offset.
 fn word(number: u8, value: usize) -> u64
@@ -19,6 +24,13 @@ fn word(number: u8, value: usize) -> u64
     ensures { λ r. ⌜ r ≡ packed 0 number value ⌝ }
 {
     number as u64 * NUMBER_UNIT + value as u64
+}
+
+// A result that is two numbers: its second value and its value.
+fn told_word(second: u16, value: u32) -> u64
+    ensures { λ r. ⌜ r ≡ packed second 0 value ⌝ }
+{
+    second as u64 * SECOND_UNIT + word(0, value as usize)
 }
 
 // The answer of reading or writing.
@@ -52,5 +64,16 @@ pub fn verdict_word(verdict: Verdict) -> u64
         Verdict::Yes => word(0, 1),
         Verdict::No => word(0, 0),
         Verdict::Refused(r) => word(r.number, r.offset),
+    }
+}
+
+// The answer for the minimum width.
+pub fn minimum_word(minimum: Minimum) -> u64
+    requires { ⌜ HeldNarrowed (narrowing minimum) ⌝ }
+    ensures { λ r. ⌜ r ≡ narrowed-word (narrowing minimum) ⌝ }
+{
+    match minimum {
+        Minimum::Found(n) => told_word(n.width, n.total),
+        Minimum::Refused(r) => word(r.number, r.offset),
     }
 }

@@ -1,18 +1,26 @@
--- The word of `strip_draw` has a number from 0 to 8: no other refusal is told, and 9 never.
+-- The word of `strip_draw` has a number from 0 to 8, that of `strip_narrowest` one from 0 to 6 or 10: no other refusal is told, and
+-- 9 never.
 use Prim.Native.Nat.{ℕ, _≤_}
 use mathlib.Core.Path.{_≡_}
+use mathlib.Core.Logic.{_⊎_, inl, inr}
 use mathlib.Core.List.{List}
 use native.Mathlib.Omega.{arith}
 use lib.IntN.{ℤ}
+use Rattle.leb128.specs.Refusals.{something-follows}
 use Rattle.leb128.specs.Reply.{Reply}
+use Rattle.leb128.specs.declared.Refusal.{Refusal}
 use Rattle.sheet.specs.Reading.{read-sheet}
-use Rattle.engine.specs.Refusals.{no-drawing}
+use Rattle.engine.specs.Refusals.{no-drawing, no-width, WidthRefusal}
+use Rattle.engine.specs.Refusals.WidthRefusal.{read, none}
 use Rattle.engine.specs.Draws.{Drawn, Draws}
+use Rattle.engine.specs.MinimumWidth.{Narrowed, Narrows}
 use Rattle.engine.specs.laws.Refusals.{draw-refusals}
 use Rattle.engine.specs.laws.Totals.{drawn-total}
-use Rattle.strip.specs.Words.{number-of, reply-word, drawn-word, DrawsWord}
+use Rattle.engine.specs.laws.MinimumWidth.{narrow-refusals}
+use Rattle.strip.specs.Words.{number-of, reply-word, drawn-word, DrawsWord, NarrowsWord}
+use Rattle.strip.specs.laws.Narrowest.{width-back, refusal-back}
 
--- what strip_refusal() gives of it
+-- what strip_refusal() gives of the word of drawing
 pub draw-word-number : (bytes p₀ : List ℕ) (y₀ : List ℤ) (p : List ℕ) (y : List ℤ) (word : ℕ)
     → DrawsWord (read-sheet bytes) p₀ y₀ p y word → number-of word ≤ no-drawing
 unfolding reply-word
@@ -21,3 +29,17 @@ draw-word-number bytes p₀ y₀ p y word w = go (w .0) (w .1) (w .2)
     go : (d : Drawn) → word ≡ drawn-word d → Draws (read-sheet bytes) p₀ y₀ p y d → number-of word ≤ no-drawing
     go (Reply.value total) e h = omega (arith, drawn-total bytes p₀ y₀ p y total h)
     go (Reply.refused r) e h = omega (arith, draw-refusals bytes p₀ y₀ p y r h .number-in, draw-refusals bytes p₀ y₀ p y r h .offset-in)
+
+-- and of that of the minimum width
+pub narrow-word-number : (bytes : List ℕ) (word : ℕ) → NarrowsWord (read-sheet bytes) word
+    → (number-of word ≤ something-follows) ⊎ (number-of word ≡ no-width)
+narrow-word-number bytes word w = go (w .0) (w .2)
+  where
+    told : (r : Refusal) → number-of word ≡ r .number → WidthRefusal r
+        → (number-of word ≤ something-follows) ⊎ (number-of word ≡ no-width)
+    told r e (read g) = inl (omega (arith, e, g .number-in))
+    told r e (none is) = inr (rw is at e)
+
+    go : (a : Narrowed) → Narrows (read-sheet bytes) a → (number-of word ≤ something-follows) ⊎ (number-of word ≡ no-width)
+    go (Reply.value n) h = inl (omega (arith, width-back bytes word w n h .number-is))
+    go (Reply.refused r) h = told r (refusal-back bytes word w r h .number-is) (narrow-refusals bytes r h)

@@ -1,7 +1,7 @@
 -- A word holds every answer: each value and each offset is below 2³², since a walk ends within the longest sheet, and each second
 -- value and each refusal's number is below 2¹⁶.
 use Prim.Native.Nat.{ℕ, _≤_, _<_}
-use mathlib.Core.Path.{_≡_, refl}
+use mathlib.Core.Path.{_≡_, refl, sym, subst}
 use mathlib.Core.Logic.{⊎-elim}
 use mathlib.Core.Bool.{Bool, true, false}
 use mathlib.Core.List.{List}
@@ -24,8 +24,12 @@ use Rattle.checker.specs.laws.Refusals.{check-refusals}
 use Rattle.engine.specs.Draws.{Drawn, Draws}
 use Rattle.engine.specs.laws.Refusals.{draw-refusals}
 use Rattle.engine.specs.laws.Totals.{drawn-total}
+use Rattle.engine.specs.MinimumWidth.{Narrowed, Narrows}
+use Rattle.engine.specs.laws.MinimumWidth.{narrow-refusals, narrow-small}
+use Rattle.engine.specs.Refusals.{WidthRefusal}
+use Rattle.engine.specs.Refusals.WidthRefusal.{read, none}
 use Rattle.strip.specs.Words.{number-unit, part-range, alone}
-use Rattle.strip.specs.HeldWords.{HeldRefusal, HeldResult, HeldOutcome, HeldDrawn, HeldJudgement}
+use Rattle.strip.specs.HeldWords.{HeldRefusal, HeldResult, HeldOutcome, HeldDrawn, HeldJudgement, HeldNarrowed}
 
 -- a refusal of a call that reads a sheet's bytes
 given-held : {most : ℕ} {r : Refusal} → most < part-range → RefusalTo most r → HeldRefusal r
@@ -96,3 +100,16 @@ checking-held bytes places list = go (check-answer (read-sheet bytes) places lis
     go (Reply.value true) e = alone-held (omega arith)
     go (Reply.value false) e = alone-held (omega arith)
     go (Reply.refused r) e = given-held (omega arith) (check-refusals bytes places list r e)
+
+-- a refusal of the minimum width
+width-held : {r : Refusal} → WidthRefusal r → HeldRefusal r
+width-held (read g) = given-held (omega arith) g
+width-held (none e) =
+    subst HeldRefusal (sym e) (record { numbered = omega arith; number-in = omega arith; offset-in = omega arith })
+
+-- of the minimum width
+pub narrowing-held : (bytes : List ℕ) (a : Narrowed) → Narrows (read-sheet bytes) a → HeldNarrowed a
+narrowing-held bytes (Reply.value n) h =
+    let small = narrow-small bytes n h in
+    record { second-in = omega (arith, small .0); value-in = omega (arith, small .1) }
+narrowing-held bytes (Reply.refused r) h = width-held (narrow-refusals bytes r h)
