@@ -1,4 +1,5 @@
-//! Path strips: read, write, draw and check sheets with the proved library.
+//! Path strips: read, write, draw and check sheets with the proved library, and tell their minimum
+//! width.
 //!
 //! Every input is allowed: what has no answer is refused, with a number and an offset. On a refusal
 //! no slice is written. Elements behind the last one written keep their contents. The functions
@@ -57,6 +58,8 @@ impl Refusal {
     pub const SLICE_SHORT: u32 = 7;
     /// No drawing exists.
     pub const NO_DRAWING: u32 = 8;
+    /// No width from 0 to 4,095 has a drawing.
+    pub const NO_WIDTH: u32 = 10;
 }
 
 /// The refusal as the program `place` prints it.
@@ -68,7 +71,17 @@ impl fmt::Display for Refusal {
 
 impl Error for Refusal {}
 
-/// The functions of the static library; the answer is refusal number · 2³² + value.
+/// The minimum width of a sheet, and the least total at that width.
+#[derive(Clone, Copy, Debug, PartialEq, Eq)]
+pub struct Narrowest {
+    /// A drawing exists at this width, and at no smaller one.
+    pub width: u16,
+    /// The total of a least drawing at this width.
+    pub total: u32,
+}
+
+/// The functions of the static library; the answer is second value · 2⁴⁸ + refusal number · 2³² +
+/// value.
 mod raw {
     extern "C" {
         pub fn strip_read(
@@ -99,6 +112,7 @@ mod raw {
             list: *const i32,
             list_len: usize,
         ) -> u64;
+        pub fn strip_narrowest(sheet: *const u8, sheet_len: usize) -> u64;
     }
 }
 
@@ -179,9 +193,29 @@ pub fn check(sheet: &[u8], places: &[u16], list: &[i32]) -> Result<bool, Refusal
     value(answer).map(|word| word == 1)
 }
 
+/// Tells the minimum width of a sheet, the least at which it has a drawing, whatever its own width is;
+/// and the least total at that width.
+///
+/// Refusals 1 to 6 and 10.
+///
+/// ```
+/// let two_nodes = [0x53, 0x50, 0x31, 0, 1, 2, 3, 0, 0];
+/// let narrowest = strip::narrowest(&two_nodes)?;
+/// assert_eq!((narrowest.width, narrowest.total), (3, 0));
+/// # Ok::<(), strip::Refusal>(())
+/// ```
+pub fn narrowest(sheet: &[u8]) -> Result<Narrowest, Refusal> {
+    // SAFETY: the pointer and the length are those of a slice, which is only read.
+    let answer = unsafe { raw::strip_narrowest(sheet.as_ptr(), sheet.len()) };
+    value(answer).map(|total| Narrowest {
+        width: (answer >> 48) as u16,
+        total,
+    })
+}
+
 /// The value of an answer, or the refusal.
 fn value(answer: u64) -> Result<u32, Refusal> {
-    let (number, value) = ((answer >> 32) as u32, answer as u32);
+    let (number, value) = (u32::from((answer >> 32) as u16), answer as u32);
     match number {
         0 => Ok(value),
         _ => Err(Refusal {
