@@ -1,4 +1,4 @@
-"""Path strips: read, write, draw and check sheets with the proved library.
+"""Path strips: read, write, draw and check sheets with the proved library, and tell their minimum width.
 
     >>> import strip
     >>> sheet = bytes([0x53, 0x50, 0x31, 5, 2, 2, 1, 0, 1, 2, 1, 1, 1, 0, 1, 2, 1, 0])
@@ -7,6 +7,8 @@
     (1, [0, 1, 0])
     >>> strip.check(sheet, drawing.places, drawing.certificate)
     True
+    >>> strip.narrowest(sheet)
+    Narrowest(width=1, total=1)
     >>> strip.draw(sheet[:2])
     Traceback (most recent call last):
     strip.Refusal: refused 1 at 2
@@ -44,6 +46,7 @@ SEPARATIONS_CROSSED = 5
 SOMETHING_FOLLOWS = 6
 SLICE_SHORT = 7
 NO_DRAWING = 8
+NO_WIDTH = 10
 
 
 class Refusal(Exception):
@@ -68,6 +71,13 @@ class Drawing(NamedTuple):
     places: List[int]
     # document 01's pull list
     certificate: List[int]
+
+
+class Narrowest(NamedTuple):
+    """The minimum width of a sheet, the least at which it has a drawing, and the least total at that width."""
+
+    width: int
+    total: int
 
 
 def read(sheet: bytes) -> List[int]:
@@ -98,6 +108,12 @@ def check(sheet: bytes, places: Iterable[int], certificate: Iterable[int]) -> bo
     return _call("strip_check", _bytes(sheet), _numbers(places), _signed(certificate)) == 1
 
 
+def narrowest(sheet: bytes) -> Narrowest:
+    """The minimum width of a sheet, whatever its own width is, and the least total there."""
+    total, width = _answer("strip_narrowest", _bytes(sheet))
+    return Narrowest(width, total)
+
+
 def sizes(numbers: List[int]) -> Tuple[List[int], int]:
     """How many nodes each layer of a sheet has, and how many edges the sheet has, by its number list."""
     counts, at = [], 2
@@ -116,6 +132,7 @@ _FUNCTIONS = {
     "strip_write": (_U16, _U8),
     "strip_draw": (_U8, _U16, _I32),
     "strip_check": (_U8, _U16, _I32),
+    "strip_narrowest": (_U8,),
 }
 
 
@@ -137,12 +154,19 @@ def _signed(numbers: Iterable[int]) -> ctypes.Array:
 
 
 def _call(name: str, *slices: ctypes.Array) -> int:
-    """The value of an answer, which is refusal * 2**32 + value."""
+    """The value of an answer."""
+    value, _ = _answer(name, *slices)
+    return value
+
+
+def _answer(name: str, *slices: ctypes.Array) -> Tuple[int, int]:
+    """The value and the second value of an answer, which is second * 2**48 + refusal * 2**32 + value."""
     arguments = [argument for part in slices for argument in (part, len(part))]
-    number, value = divmod(getattr(_library(), name)(*arguments), 2**32)
+    rest, value = divmod(getattr(_library(), name)(*arguments), 2**32)
+    second, number = divmod(rest, 2**16)
     if number != 0:
         raise Refusal(number, value)
-    return value
+    return value, second
 
 
 @functools.lru_cache(maxsize=None)

@@ -22,7 +22,7 @@ def load_tests(loader, tests, pattern):
 
 
 class Answers(unittest.TestCase):
-    """What the four functions return."""
+    """What the five functions return."""
 
     def test_read(self):
         self.assertEqual(strip.read(SHEET), NUMBERS)
@@ -44,6 +44,14 @@ class Answers(unittest.TestCase):
         self.assertIs(strip.check(SHEET, PLACES, [0] * 8), False)
         self.assertIs(strip.check(SHEET, [0, 2, 0], CERTIFICATE), False)
 
+    def test_narrowest(self):
+        self.assertEqual(strip.narrowest(SHEET), (1, 1))
+        self.assertEqual(strip.narrowest(SHEET).width, 1)
+        for width in (0, 1, 4095):
+            self.assertEqual(strip.narrowest(strip.write([width, 1, 3, 1, 0, 2, 0, 0])), strip.Narrowest(3, 0))
+        least = [4095, 2] + [2, 4095, 0] * 2 + [1, 1, 1, 2, 0]
+        self.assertEqual(strip.narrowest(strip.write(least)), strip.Narrowest(4095, 4095))
+
     def test_longest(self):
         """As many nodes and edges as a sheet can have."""
         layer = [64] + [1, 0] * 63
@@ -54,10 +62,12 @@ class Answers(unittest.TestCase):
         self.assertEqual(len(drawing.places), strip.MAX_PLACES)
         self.assertEqual(len(drawing.certificate), strip.MAX_LIST)
         self.assertTrue(strip.check(sheet, drawing.places, drawing.certificate))
+        self.assertEqual(strip.narrowest(sheet).width, 63)
 
     def test_any_bytes(self):
         for kind in (bytearray, memoryview):
             self.assertEqual(strip.draw(kind(SHEET)).places, PLACES)
+            self.assertEqual(strip.narrowest(kind(SHEET)), (1, 1))
 
 
 class Refusals(unittest.TestCase):
@@ -71,7 +81,7 @@ class Refusals(unittest.TestCase):
         self.assertEqual(str(refusal), f"refused {number} at {offset}")
 
     def test_sheets(self):
-        for call in (strip.read, strip.draw):
+        for call in (strip.read, strip.draw, strip.narrowest):
             self.refused(strip.INPUT_ENDED, 0, call, b"")
             self.refused(strip.NOT_A_SHEET, 0, call, b"SP2")
             self.refused(strip.NUMBER_FORM, 3, call, b"SP1\x80\x00")
@@ -79,6 +89,7 @@ class Refusals(unittest.TestCase):
             self.refused(strip.SEPARATIONS_CROSSED, 7, call, b"SP1\x05\x01\x02\x03\x02")
             self.refused(strip.SOMETHING_FOLLOWS, 7, call, b"SP1\x00\x01\x01\x00\x00")
         self.refused(strip.NO_DRAWING, 0, strip.draw, b"SP1\x00\x01\x02\x01\x00\x00")
+        self.refused(strip.NO_WIDTH, 0, strip.narrowest, b"SP1\x00\x01\x03\xff\x1f\x00\xff\x1f\x00\x00")
 
     def test_numbers(self):
         self.refused(strip.INPUT_ENDED, 0, strip.write, [])
