@@ -1,6 +1,7 @@
 /*
- * All four functions: reads a sheet, writes it with another width, draws that, and has the drawing
- * checked. It prints the total and what the checker says.
+ * All five functions: reads a sheet, tells its minimum width, writes it with another width, draws
+ * that, and has the drawing checked. It prints the minimum width with the least total there, then
+ * the total and what the checker says.
  *
  * Exit status: 0 drawn and accepted, 1 refused or not accepted, 2 the file cannot be read.
  */
@@ -45,6 +46,13 @@ int main(int argc, char **argv) {
     count = strip_value(answer);
     width = strtoul(argv[2], NULL, 10);
     numbers[0] = (uint16_t)(width > UINT16_MAX ? UINT16_MAX : width);
+
+    /* The least width at which it has a drawing, with the least total there. */
+    answer = strip_narrowest(bytes, length);
+    if (refused("narrowest", answer))
+        return 1;
+    printf("narrowest: width %lu, total %lu\n", (unsigned long)strip_second(answer),
+           (unsigned long)strip_value(answer));
 
     /* The same sheet with another width; one outside the limits is refused. */
     answer = strip_write(numbers, count, bytes, sizeof bytes);

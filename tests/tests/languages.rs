@@ -9,7 +9,7 @@ use std::process::{Command, Stdio};
 
 use second::printed::printed;
 use second::sheet::PLAIN;
-use strip_tests::document::{stair, NO_DRAWING, REFUSED};
+use strip_tests::document::{crossing, stair, NO_DRAWING, REFUSED};
 use strip_tests::examples::examples;
 use tools::{compiler, folder, output, python, root, run_in, shared_library, LIBRARY};
 
@@ -130,7 +130,7 @@ fn python_module_answers() {
 }
 
 #[test]
-fn tour_reads_writes_draws_and_checks() {
+fn tour_calls_all_functions() {
     for name in ["gcc", "clang"] {
         let program = compiled(name, "c99", "examples/tour.c");
         let sheet = folder(&format!("languages-tour-{name}")).join("stair.sheet");
@@ -140,16 +140,21 @@ fn tour_reads_writes_draws_and_checks() {
             command.arg(&sheet).arg(width);
             command
         };
-        check_ends(&mut tour("0"), 1, "draw: refused 8 at 0\n", 0);
+        let narrowest = "narrowest: width 1, total 2\n";
+        let told = format!("{narrowest}draw: refused 8 at 0\n");
+        check_ends(&mut tour("0"), 1, &told, 0);
         for width in [1, 2, 3, 4095] {
             let text = printed(&stair(width, PLAIN).bytes());
             let total = text.lines().next().expect("a total");
-            let told = format!("{total}\nchecked: yes\n");
+            let told = format!("{narrowest}{total}\nchecked: yes\n");
             check_ends(&mut tour(&width.to_string()), 0, &told, 0);
         }
         for width in ["4096", "65535", "65536", "99999999999999999999"] {
-            check_ends(&mut tour(width), 1, "write: refused 4 at 0\n", 0);
+            let told = format!("{narrowest}write: refused 4 at 0\n");
+            check_ends(&mut tour(width), 1, &told, 0);
         }
+        fs::write(&sheet, crossing().bytes()).expect("a sheet can be written");
+        check_ends(&mut tour("1"), 1, "narrowest: refused 10 at 0\n", 0);
         fs::write(&sheet, REFUSED[2].1).expect("a sheet can be written");
         check_ends(&mut tour("1"), 1, "read: refused 3 at 3\n", 0);
         fs::remove_file(&sheet).expect("the sheet is there");
