@@ -1,4 +1,5 @@
-//! A second implementation of document 01, written from it alone: what the library is compared with.
+//! A second implementation of documents 01 and 02, written from them alone: what the library is
+//! compared with.
 //!
 //! It uses no other package, and knows nothing of the library or of the tests.
 
@@ -7,6 +8,7 @@ pub mod certificate;
 pub mod checker;
 pub mod drawing;
 pub mod engine;
+pub mod minimum_width;
 pub mod network;
 pub mod number;
 pub mod printed;

@@ -16,6 +16,8 @@ pub const EXCESS: u32 = 6;
 pub const SLICE_TOO_SHORT: u32 = 7;
 /// No drawing exists.
 pub const NO_DRAWING: u32 = 8;
+/// No width within the limit has a drawing.
+pub const NO_WIDTH: u32 = 10;
 
 /// One of the numbers above, and an offset in bytes (for the writer: an index).
 #[derive(Clone, Copy, Debug, PartialEq, Eq)]
