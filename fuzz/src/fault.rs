@@ -1,5 +1,6 @@
 //! A library with a deliberate fault, which the self-test must find.
 
+use second::minimum_width::Minimum;
 use second::refusal::Refusal;
 use strip_tests::compare::Library;
 
@@ -30,5 +31,9 @@ impl Library for Faulty {
 
     fn check(&self, sheet: &[u8], places: &[u16], list: &[i32]) -> Result<bool, Refusal> {
         Proved.check(sheet, places, list)
+    }
+
+    fn narrowest(&self, sheet: &[u8]) -> Result<Minimum, Refusal> {
+        Proved.narrowest(sheet)
     }
 }

@@ -10,6 +10,7 @@ mod call;
 pub mod check;
 pub mod draw;
 pub mod format;
+pub mod narrowest;
 mod text;
 
 pub use call::Call;
@@ -59,6 +60,7 @@ pub fn stored() -> Vec<Group> {
     let mut groups = format::stored();
     groups.extend(check::stored());
     groups.extend(draw::stored());
+    groups.extend(narrowest::stored());
     groups
 }
 
@@ -67,6 +69,7 @@ pub fn others() -> Vec<Group> {
     let mut groups = format::others();
     groups.extend(check::others());
     groups.extend(draw::others());
+    groups.extend(narrowest::others());
     groups
 }
 

@@ -6,19 +6,21 @@
 mod checking;
 mod drawing;
 mod format;
+mod narrowest;
 mod near;
 mod tally;
 
 use crate::cases::Call;
 use crate::random::Random;
 use second::drawing::Sheet;
+use second::minimum_width::Minimum;
 use second::refusal::Refusal;
 
 pub use checking::judge;
 pub use format::{read, read_into, write, write_into};
 pub use tally::{grouped, scale, Tally};
 
-/// The four functions of a library, as document 01 has them.
+/// The five functions of a library, as documents 01 and 02 have them.
 pub trait Library {
     /// Reads a sheet's numbers into the front of a slice, and gives their count.
     fn read(&self, sheet: &[u8], numbers: &mut [u16]) -> Result<usize, Refusal>;
@@ -28,6 +30,8 @@ pub trait Library {
     fn draw(&self, sheet: &[u8], places: &mut [u16], list: &mut [i32]) -> Result<u32, Refusal>;
     /// Says whether a list shows that places are a drawing of least total.
     fn check(&self, sheet: &[u8], places: &[u16], list: &[i32]) -> Result<bool, Refusal>;
+    /// Tells the minimum width of a sheet, and the least total there.
+    fn narrowest(&self, sheet: &[u8]) -> Result<Minimum, Refusal>;
 }
 
 /// What both answer to a sheet, and how often both checkers say yes and no.
@@ -35,12 +39,14 @@ pub trait Library {
 pub struct Outcome {
     /// The total and the places, or why the sheet is not drawn.
     pub drawn: Result<(u32, Vec<u16>), Refusal>,
+    /// The minimum width with the least total there, or why there is none.
+    pub minimum: Result<Minimum, Refusal>,
     pub yes: usize,
     pub no: usize,
 }
 
-/// Compares all that is answered to these bytes: reading them, writing what is read, drawing, and
-/// checking the drawing and near misses of it.
+/// Compares all that is answered to these bytes: reading them, writing what is read, drawing,
+/// checking the drawing and near misses of it, and the minimum width.
 pub fn sheet(library: &impl Library, bytes: &[u8]) -> Outcome {
     let mut random = Random::new(seed(bytes));
     let _ = write(library, &pairs(bytes));
@@ -53,13 +59,23 @@ pub fn sheet(library: &impl Library, bytes: &[u8]) -> Outcome {
             }
             let sheet = Sheet::from_numbers(&numbers);
             let drawn = drawing::good(library, bytes, &sheet);
-            checking::good(library, &mut random, bytes, &sheet, drawn)
+            let (yes, no) = checking::good(library, &mut random, bytes, &sheet, drawn.as_ref());
+            let minimum = narrowest::good(library, bytes, &numbers);
+            let is_enough = minimum.is_ok_and(|minimum| minimum.width <= sheet.width);
+            assert_eq!(drawn.is_ok(), is_enough, "{minimum:?} of {bytes:02x?}");
+            Outcome {
+                drawn: drawn.map(|drawn| (drawn.total, drawn.places)),
+                minimum,
+                yes,
+                no,
+            }
         }
         Err(refusal) => {
             drawing::bad(library, bytes);
             checking::bad(library, bytes);
             Outcome {
                 drawn: Err(refusal),
+                minimum: narrowest::told(library, bytes),
                 yes: 0,
                 no: 0,
             }
@@ -84,6 +100,7 @@ pub fn call(library: &impl Library, call: &Call) -> Option<Result<bool, Refusal>
             places,
             list,
         } => Some(drawing::into(library, bytes, *places, *list).map(|_| true)),
+        Call::Narrowest { bytes } => Some(narrowest::told(library, bytes).map(|_| true)),
     }
 }
 

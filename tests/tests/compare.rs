@@ -4,10 +4,12 @@ use std::panic::{catch_unwind, AssertUnwindSafe};
 
 use second::certificate;
 use second::checker;
-use second::drawing::Sheet;
+use second::drawing::{total, Sheet};
 use second::engine;
-use second::refusal::{Refusal, NO_DRAWING, SLICE_TOO_SHORT};
+use second::minimum_width::{minimum_width, Minimum};
+use second::refusal::{Refusal, NO_DRAWING, NO_WIDTH, SLICE_TOO_SHORT};
 use second::sheet::{self as format, PLAIN};
+use second::solver::solve;
 use strip_tests::compare::{sheet, Library};
 use strip_tests::document::{self, REFUSED};
 use strip_tests::families::turned::mirrored;
@@ -38,10 +40,16 @@ enum Fault {
     CheckShort,
     CheckPlaces,
     CheckWraps,
+    NarrowestMore,
+    NarrowestWithin,
+    NarrowestLowest,
+    NarrowestWider,
+    NarrowestNumber,
+    NarrowestOffset,
 }
 
 /// All faults.
-const FAULTS: [Fault; 20] = [
+const FAULTS: [Fault; 26] = [
     Fault::ReadOffset,
     Fault::ReadBehind,
     Fault::ReadOnRefusal,
@@ -62,6 +70,12 @@ const FAULTS: [Fault; 20] = [
     Fault::CheckShort,
     Fault::CheckPlaces,
     Fault::CheckWraps,
+    Fault::NarrowestMore,
+    Fault::NarrowestWithin,
+    Fault::NarrowestLowest,
+    Fault::NarrowestWider,
+    Fault::NarrowestNumber,
+    Fault::NarrowestOffset,
 ];
 
 /// This package as a library with a fault.
@@ -147,11 +161,66 @@ impl Library for Faulty {
             _ => answer,
         }
     }
+
+    fn narrowest(&self, sheet: &[u8]) -> Result<Minimum, Refusal> {
+        let answer = minimum_width(sheet);
+        match (self.0, answer) {
+            (Fault::NarrowestMore, Ok(minimum)) => Ok(Minimum {
+                width: minimum.width + 1,
+                ..minimum
+            }),
+            // the sheet's own width is the limit of the search
+            (Fault::NarrowestWithin, Ok(minimum)) if minimum.width > own(sheet).width => {
+                Err(Refusal::new(NO_WIDTH, 0))
+            }
+            // the total of the drawing in which every node stands as far left as it can
+            (Fault::NarrowestLowest, Ok(minimum)) => Ok(Minimum {
+                total: lowest_total(sheet, minimum.width),
+                ..minimum
+            }),
+            // the total in the sheet's own width
+            (Fault::NarrowestWider, Ok(minimum)) => Ok(Minimum {
+                total: total_of(&own(sheet)).unwrap_or(minimum.total),
+                ..minimum
+            }),
+            (Fault::NarrowestNumber, Err(Refusal { number: 10, .. })) => {
+                Err(Refusal::new(NO_DRAWING, 0))
+            }
+            (Fault::NarrowestOffset, Err(Refusal { number: 10, .. })) => {
+                Err(Refusal::new(NO_WIDTH, sheet.len()))
+            }
+            _ => answer,
+        }
+    }
+}
+
+/// A good sheet as it is.
+fn own(bytes: &[u8]) -> Sheet {
+    Sheet::from_bytes(bytes).expect("a good sheet")
+}
+
+/// The least total of a sheet, if it has a drawing.
+fn total_of(sheet: &Sheet) -> Option<u32> {
+    let solution = solve(sheet)?;
+    Some(total(sheet, &solution.places))
+}
+
+/// The total of the drawing in which every node stands as far left as it can, in a width that is enough.
+fn lowest_total(bytes: &[u8], width: u16) -> u32 {
+    let sheet = Sheet {
+        width,
+        ..own(bytes)
+    };
+    // without edges to be short, what is leftmost is leftmost of all
+    let mut loose = sheet.clone();
+    loose.edges.retain(|edge| edge.straight);
+    let places = solve(&loose).expect("the width is enough").places;
+    total(&sheet, &places)
 }
 
 /// How many places and list numbers a good sheet needs.
 fn needed(bytes: &[u8]) -> (usize, usize) {
-    let sheet = Sheet::from_bytes(bytes).expect("a good sheet");
+    let sheet = own(bytes);
     (sheet.node_count(), certificate::length(&sheet))
 }
 

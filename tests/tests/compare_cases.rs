@@ -3,7 +3,7 @@
 mod library;
 
 use library::Proved;
-use strip_tests::cases::{check, draw, format, others, stored, Group, Line};
+use strip_tests::cases::{check, draw, format, narrowest, others, stored, Group, Line};
 use strip_tests::compare::{self, grouped};
 
 /// How often a case is taken or gets a yes, gets a no, and is refused.
@@ -11,7 +11,7 @@ use strip_tests::compare::{self, grouped};
 struct Answers {
     taken: usize,
     no: usize,
-    refused: [usize; 9],
+    refused: [usize; 11],
 }
 
 impl Answers {
@@ -38,7 +38,9 @@ impl Answers {
 fn stored_cases() {
     let answers = Answers::of("stored cases", &stored());
     assert!(answers.taken > 50 && answers.no > 20);
-    assert!(answers.refused[1..=8].iter().all(|&count| count > 0));
+    assert!((1..=8)
+        .chain([10])
+        .all(|number| answers.refused[number] > 0));
 }
 
 #[test]
@@ -60,6 +62,15 @@ fn rules_and_extremes_checked() {
 fn slices_and_extremes_drawn() {
     let answers = Answers::of("cases of the engine", &draw::others());
     assert!(answers.taken > 25 && answers.refused[7] > 60 && answers.refused[8] > 5);
+}
+
+#[test]
+fn widths_and_extremes_narrowed() {
+    let answers = Answers::of("cases of the minimum width", &narrowest::others());
+    assert!(answers.taken > 70);
+    for (number, least) in [(1, 4), (3, 5), (4, 4), (5, 1), (10, 9)] {
+        assert!(answers.refused[number] >= least, "refused {number}");
+    }
 }
 
 /// The word of the checker in a line of output: its last part, without offset.

@@ -23,4 +23,6 @@ pub enum Call {
         places: usize,
         list: usize,
     },
+    /// Tells the minimum width of a sheet.
+    Narrowest { bytes: Vec<u8> },
 }

@@ -14,6 +14,8 @@
 //!   digits each, and the bytes of the sheet behind them.
 //! - `D` draws the sheet whose bytes are the payload into slices of so many places and list numbers.
 //!   The answer ends in the checker's word on that sheet and these slices.
+//! - `N` tells the minimum width of the sheet whose bytes are the payload, and the least total there;
+//!   both numbers are 0.
 //!
 //! Every byte of a slice is a5 before the call. The answer is followed by every element of each slice
 //! as it is after the call.
@@ -24,6 +26,7 @@ use second::certificate;
 use second::checker::check;
 use second::drawing::Sheet;
 use second::engine::draw;
+use second::minimum_width::minimum_width;
 use second::number::{self, Placed};
 use second::refusal::Refusal;
 use second::sheet;
@@ -88,6 +91,7 @@ impl Call {
                 places,
                 list,
             } => ('D', *places, *list, digits(bytes, 2, "")),
+            Call::Narrowest { bytes } => ('N', 0, 0, digits(bytes, 2, "")),
         };
         format!("{letter} {first:04x} {second:04x} {payload}")
     }
@@ -128,6 +132,10 @@ impl Call {
                 places,
                 list,
             } => drawn(bytes, *places, *list),
+            Call::Narrowest { bytes } => match minimum_width(bytes) {
+                Ok(minimum) => format!("narrowest {} {}", minimum.width, minimum.total),
+                Err(refusal) => refused(refusal),
+            },
         }
     }
 }

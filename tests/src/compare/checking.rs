@@ -1,7 +1,7 @@
 //! Comparing checkers.
 
 use super::drawing::Drawn;
-use super::{near, Library, Outcome};
+use super::{near, Library};
 use crate::random::Random;
 use second::certificate;
 use second::checker;
@@ -30,43 +30,38 @@ pub fn bad(library: &impl Library, bytes: &[u8]) {
     }
 }
 
-/// Compares checking the drawing of a sheet with the lists of both, and near misses.
+/// Compares checking the drawing of a sheet with the lists of both, and near misses; gives how often
+/// both checkers say yes and no.
 pub fn good(
     library: &impl Library,
     random: &mut Random,
     bytes: &[u8],
     sheet: &Sheet,
-    drawn: Result<Drawn, Refusal>,
-) -> Outcome {
-    let (places, list) = (sheet.node_count(), certificate::length(sheet));
-    let mut outcome = Outcome {
-        drawn: Ok((0, Vec::new())),
-        yes: 0,
-        no: 0,
-    };
+    drawn: Result<&Drawn, &Refusal>,
+) -> (usize, usize) {
+    let (mut yes, mut no) = (0, 0);
     let start = match drawn {
         Ok(drawn) => {
             for list in [&drawn.first, &drawn.second] {
                 let answer = judge(library, bytes, &drawn.places, list);
                 assert_eq!(answer, Ok(true), "checking {bytes:02x?}, list {list:?}");
             }
-            outcome.drawn = Ok((drawn.total, drawn.places.clone()));
-            outcome.yes += 2;
-            (drawn.places, drawn.first)
+            yes += 2;
+            (drawn.places.clone(), drawn.first.clone())
         }
-        Err(refusal) => {
-            outcome.drawn = Err(refusal);
+        Err(_) => {
+            let (places, list) = (sheet.node_count(), certificate::length(sheet));
             (vec![0; places], vec![0; list])
         }
     };
     short(library, bytes, &start.0, &start.1);
     for (places, list) in near::drawings(random, sheet, &start.0, &start.1) {
         match judge(library, bytes, &places, &list) {
-            Ok(true) => outcome.yes += 1,
-            _ => outcome.no += 1,
+            Ok(true) => yes += 1,
+            _ => no += 1,
         }
     }
-    outcome
+    (yes, no)
 }
 
 /// Compares checking with slices that are too short.

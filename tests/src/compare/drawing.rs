@@ -100,6 +100,11 @@ pub fn good(library: &impl Library, bytes: &[u8], sheet: &Sheet) -> Result<Drawn
     })
 }
 
+/// The total of the library's drawing in slices that are long enough for every sheet.
+pub fn total(library: &impl Library, bytes: &[u8]) -> Result<u32, Refusal> {
+    drawn(library, bytes, 256, 1024).0
+}
+
 /// Checks that in longer slices the answer is the same and the rest is kept.
 fn check_longer(
     bytes: &[u8],

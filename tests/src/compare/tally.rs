@@ -5,7 +5,7 @@ use std::env;
 use super::{sheet, Library, Outcome};
 use crate::draft::Draft;
 use crate::random::Random;
-use second::refusal::NO_DRAWING;
+use second::refusal::{Refusal, NO_DRAWING, NO_WIDTH};
 
 /// How many times more sheets are compared than by default: the environment variable
 /// `STRIP_TEST_SCALE`, or 1.
@@ -28,6 +28,10 @@ pub struct Tally {
     pub long: usize,
     /// By the number of the refusal.
     pub refused: [usize; 9],
+    /// With a minimum width.
+    pub narrowed: usize,
+    /// Refused by the call that tells the minimum width: no width has a drawing.
+    pub without_width: usize,
     /// What the checkers said to drawings and near misses.
     pub yes: usize,
     pub no: usize,
@@ -73,6 +77,10 @@ impl Tally {
             }
             Err(refusal) => self.refused[refusal.number as usize] += 1,
         }
+        match outcome.minimum {
+            Ok(_) => self.narrowed += 1,
+            Err(Refusal { number, .. }) => self.without_width += usize::from(number == NO_WIDTH),
+        }
     }
 
     /// Prints a line with all counts.
@@ -84,6 +92,8 @@ impl Tally {
                 line += &format!(", {} refused {number}", grouped(count));
             }
         }
+        let (narrowed, without) = (grouped(self.narrowed), grouped(self.without_width));
+        line += &format!("; minimum width: {narrowed} told, {without} refused {NO_WIDTH}");
         let (yes, no) = (grouped(self.yes), grouped(self.no));
         println!("{line}; checked: {yes} yes, {no} no");
     }

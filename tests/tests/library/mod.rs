@@ -1,5 +1,6 @@
 //! The proved library, for comparing it with the second implementation.
 
+use second::minimum_width::Minimum;
 use second::refusal::Refusal;
 use strip_tests::compare::Library;
 
@@ -21,6 +22,14 @@ impl Library for Proved {
 
     fn check(&self, sheet: &[u8], places: &[u16], list: &[i32]) -> Result<bool, Refusal> {
         strip::check(sheet, places, list).map_err(refusal)
+    }
+
+    fn narrowest(&self, sheet: &[u8]) -> Result<Minimum, Refusal> {
+        let minimum = |found: strip::Narrowest| Minimum {
+            width: found.width,
+            total: found.total,
+        };
+        strip::narrowest(sheet).map(minimum).map_err(refusal)
     }
 }
 
