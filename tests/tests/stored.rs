@@ -100,7 +100,7 @@ fn payloads_are_whole_elements() {
     let groups = stored();
     for [operation, first, second, payload] in lines(&groups).filter_map(parts) {
         let (before, digits) = match &operation[..] {
-            "R" | "G" | "D" => (0, 2),
+            "R" | "G" | "D" | "N" => (0, 2),
             "W" => (0, 4),
             "P" => (0, 8),
             "C" => (4 * hexadecimal(&first) + 8 * hexadecimal(&second), 2),
@@ -120,12 +120,21 @@ fn each_refusal_and_each_word_is_stored() {
             .filter(|line| line.starts_with(answer))
             .count()
     };
-    let refused = (1..=8).map(|number| count(&format!("refused {number} at ")));
+    let numbers = (1..=8).chain([10]);
+    let refused = numbers.map(|number| count(&format!("refused {number} at ")));
     let refused: Vec<usize> = refused.collect();
     assert!(refused.iter().all(|&count| count > 0), "{refused:?}");
     assert_eq!(refused.iter().sum::<usize>(), count("refused"));
     for answer in [
-        "value ", "next ", "no form:", "no room:", "done ", "total ", "yes", "no",
+        "value ",
+        "next ",
+        "no form:",
+        "no room:",
+        "done ",
+        "total ",
+        "yes",
+        "no",
+        "narrowest ",
     ] {
         assert!(count(answer) > 0, "{answer}");
     }

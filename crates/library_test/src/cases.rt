@@ -1,6 +1,7 @@
 // The cases: the form of a line, and the operations.
 use crate::draw::draw_case;
 use crate::hex;
+use crate::narrowest::narrowest_case;
 use crate::show;
 use crate::smaller;
 use sheet::limits::MAX_BYTES;
@@ -150,6 +151,7 @@ fn operation(letter: u8, room: usize, at: usize, payload: &[u8]) -> bool {
         b'P' => put_case(room, at, payload),
         b'C' => check_case(room, at, payload),
         b'D' => draw_case(room, at, payload),
+        b'N' => narrowest_case(payload),
         _ => false,
     }
 }

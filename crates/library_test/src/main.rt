@@ -3,6 +3,7 @@ mod cases;
 mod draw;
 mod hex;
 mod input;
+mod narrowest;
 mod show;
 
 use cases::case;

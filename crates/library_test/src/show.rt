@@ -1,6 +1,7 @@
 // Answers and slices as text on the standard output.
 use checker::Verdict;
 use engine::Answer as Drawing;
+use engine::Minimum;
 use leb128::Answer;
 use leb128::Found;
 use leb128::Placed;
@@ -82,6 +83,19 @@ pub fn drawing(drawing: Drawing) {
         Drawing::Refused(r) => refusal(r),
     }
     text(b":");
+}
+
+// Prints the minimum width, and the total at it.
+pub fn minimum(minimum: Minimum) {
+    match minimum {
+        Minimum::Found(n) => {
+            text(b"narrowest ");
+            decimal(n.width as usize);
+            text(b" ");
+            decimal(n.total as usize);
+        }
+        Minimum::Refused(r) => refusal(r),
+    }
 }
 
 // Prints a byte behind a space.
