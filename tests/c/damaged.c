@@ -1,5 +1,5 @@
 /*
- * Calls the four functions of the library on sheets and number lists from a file, each slice in a
+ * Calls the five functions of the library on sheets and number lists from a file, each slice in a
  * block of memory of exactly its size, and prints every answer.
  *
  *     damaged PLACEMENT FAULT FILE
@@ -184,6 +184,14 @@ static void try_check(const struct item *item, const void *bytes, int byte) {
     give_back(sheet);
 }
 
+/* Tells the minimum width of a sheet. */
+static void try_narrowest(const struct item *item, const void *bytes) {
+    struct block sheet = copy_of(bytes, item->size);
+    uint64_t answer = strip_narrowest(sheet.data, item->size);
+    printf("narrowest %016llx\n", (unsigned long long)answer);
+    give_back(sheet);
+}
+
 /* Makes all calls for an item. */
 static void try_item(const struct item *item, const void *bytes) {
     if (item->kind == LIST) {
@@ -201,6 +209,7 @@ static void try_item(const struct item *item, const void *bytes) {
     try_check(item, bytes, 0x7f);
     try_check(item, bytes, 0x80);
     try_check(item, bytes, 0xff);
+    try_narrowest(item, bytes);
 }
 
 /* Takes every item from a file. */

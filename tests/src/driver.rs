@@ -1,4 +1,4 @@
-//! What the driver `tests/c/damaged.c` is given, and what it prints: calls of the four functions
+//! What the driver `tests/c/damaged.c` is given, and what it prints: calls of the five functions
 //! with slices of just the lengths that are needed, one element shorter, and longer.
 
 mod items;
@@ -8,6 +8,7 @@ use second::certificate;
 use second::checker::check;
 use second::drawing::Sheet;
 use second::engine::draw;
+use second::minimum_width::minimum_width;
 use second::refusal::{Refusal, NO_DRAWING};
 use second::sheet::{read, write, NUMBER_LIMIT};
 
@@ -22,7 +23,7 @@ const FILLINGS: [u8; 4] = [0x00, 0x7f, 0x80, 0xff];
 
 /// What the driver calls the functions with.
 pub enum Item {
-    /// The bytes of a sheet: read, drawn and checked.
+    /// The bytes of a sheet: read, drawn and checked, and its minimum width.
     Sheet(Vec<u8>),
     /// A number list: written.
     Numbers(Vec<u16>),
@@ -93,6 +94,7 @@ pub fn calls(item: &Item) -> Vec<String> {
                 lines.extend(drawing(bytes, &needs, places, list));
             }
             lines.extend(FILLINGS.map(|byte| checking(bytes, &needs, byte)));
+            lines.push(narrowest(bytes));
         }
         Item::Numbers(numbers) => {
             lines.extend(MORE.map(|more| writing(numbers, longer(needs.sheet, more))));
@@ -146,13 +148,21 @@ fn checking(bytes: &[u8], needs: &Needs, byte: u8) -> String {
     format!("check {:016x}", number(answer.map(u32::from)))
 }
 
+/// The line for the minimum width of a sheet.
+fn narrowest(bytes: &[u8]) -> String {
+    let answer = minimum_width(bytes);
+    let second = answer.map_or(0, |minimum| u64::from(minimum.width) << 48);
+    let word = second + number(answer.map(|minimum| minimum.total));
+    format!("narrowest {word:016x}")
+}
+
 /// The line for an answer and the 16-bit elements written.
 fn shown(name: &str, answer: Result<u32, Refusal>, written: &[u16]) -> String {
     let written = sum(written.iter().flat_map(|n| n.to_le_bytes()));
     format!("{name} {:016x} {written:08x}", number(answer))
 }
 
-/// An answer as one number: that of the refusal · 2³² + value.
+/// An answer without a second value as one number: that of the refusal · 2³² + value.
 fn number(answer: Result<u32, Refusal>) -> u64 {
     match answer {
         Ok(value) => value.into(),

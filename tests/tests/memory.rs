@@ -1,4 +1,4 @@
-//! The four functions touch no memory but the slices lent to them, and use no contents that nobody
+//! The five functions touch no memory but the slices lent to them, and use no contents that nobody
 //! wrote: `tests/c/damaged.c` calls them on good and damaged sheets and lists, with each slice in a
 //! block of exactly its size, under valgrind and between pages that nobody may touch.
 
@@ -98,8 +98,9 @@ fn there_are_items_of_every_kind_and_size() {
         .iter()
         .filter(|line| line.starts_with("draw 00000000"));
     assert!(drawn.count() > 300);
-    let yes = "check 0000000000000001";
-    assert!(lines.iter().filter(|line| *line == yes).count() > 300);
+    let count = |line: &str| lines.iter().filter(|other| *other == line).count();
+    assert!(count("check 0000000000000001") > 300);
+    assert!(count("narrowest 0000000a00000000") > 50);
 }
 
 #[test]
