@@ -1,4 +1,4 @@
-//! Times drawing and checking sheets of growing size by the library.
+//! Times drawing and checking sheets of growing size, and telling their minimum width, by the library.
 
 use std::hint::black_box;
 use std::time::{Duration, Instant};
@@ -51,13 +51,18 @@ impl Sample {
     fn check(&mut self) -> bool {
         strip::check(black_box(&self.bytes), &self.places, &self.list) == Ok(true)
     }
+
+    /// Tells the minimum width, and says whether there is one.
+    fn narrowest(&mut self) -> bool {
+        strip::narrowest(black_box(&self.bytes)).is_ok()
+    }
 }
 
 /// Prints a line for each size, and one for a sheet without a drawing.
 fn main() {
     println!("microseconds for a sheet");
-    println!("                draw            check");
-    println!("nodes  edges   tight    wide   tight    wide");
+    println!("                draw            check           narrowest");
+    println!("nodes  edges   tight    wide   tight    wide   tight    wide");
     for nodes in [16, 32, 64, 128, 256] {
         let edges = 2 * nodes;
         let [tight, wide] = [TIGHT, WIDE].map(|plan| {
@@ -68,8 +73,8 @@ fn main() {
             })
         });
         println!(
-            "{nodes:5}  {edges:5}  {:6.1}  {:6.1}  {:6.1}  {:6.1}",
-            tight.0, wide.0, tight.1, wide.1
+            "{nodes:5}  {edges:5}  {:6.1}  {:6.1}  {:6.1}  {:6.1}  {:6.1}  {:6.1}",
+            tight[0], wide[0], tight[1], wide[1], tight[2], wide[2]
         );
     }
     let mut spiral = [Sample::new(&spiral(&[1; 64], 1))];
@@ -77,14 +82,13 @@ fn main() {
     println!("a spiral of 192 nodes and 126 edges without a drawing is refused in {refused:.1}");
 }
 
-/// The microseconds for drawing and for checking a sheet of a plan.
-fn measure(plan: &Plan) -> (f64, f64) {
+/// The microseconds for drawing, for checking and for the minimum width of a sheet of a plan.
+fn measure(plan: &Plan) -> [f64; 3] {
     let mut random = Random::new(14);
     let sample = |_| Sample::new(&planted(&mut random, plan));
     let mut samples: Vec<Sample> = (0..SHEETS).map(sample).collect();
-    let draw = shortest(&mut samples, Sample::draw);
-    let check = shortest(&mut samples, Sample::check);
-    (draw, check)
+    let calls = [Sample::draw, Sample::check, Sample::narrowest];
+    calls.map(|call| shortest(&mut samples, call))
 }
 
 /// The microseconds for one sheet in the shortest of several runs; the call must say yes.
