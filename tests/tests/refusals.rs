@@ -10,7 +10,7 @@ use library::Proved;
 use second::refusal::Refusal;
 use strip_tests::cases::Call;
 use strip_tests::compare;
-use strip_tests::document::{NO_DRAWING, ONE_NODE, REFUSED};
+use strip_tests::document::{crossing, NO_DRAWING, ONE_NODE, REFUSED};
 use tools::{refusals, root};
 
 /// The text of the page.
@@ -35,18 +35,19 @@ fn number(text: &str) -> Option<usize> {
     text.replace(',', "").parse().ok()
 }
 
-/// The call of an example, with its slices.
+/// The call of an example, with its slices; `narrowest` has none.
 fn call(name: &str, bytes: &str, slices: &str) -> Option<Call> {
     let byte = |text| u8::from_str_radix(text, 16).ok();
     let bytes = bytes.split(' ').map(byte).collect::<Option<_>>()?;
-    let slices = slices.strip_suffix(" numbers")?;
+    let slices = slices.strip_suffix(" numbers").unwrap_or(slices);
     match name {
         "read" => {
-            let room = number(slices.strip_prefix("a slice of ")?)?;
+            let room = number(slices.strip_prefix(" with a slice of ")?)?;
             Some(Call::Read { bytes, room })
         }
+        "narrowest" => slices.is_empty().then_some(Call::Narrowest { bytes }),
         "draw" => {
-            let lengths = slices.strip_prefix("slices of ")?;
+            let lengths = slices.strip_prefix(" with slices of ")?;
             let (places, list) = lengths.split_once(" places and ")?;
             let (places, list) = (number(places)?, number(list)?);
             Some(Call::Draw {
@@ -59,10 +60,11 @@ fn call(name: &str, bytes: &str, slices: &str) -> Option<Call> {
     }
 }
 
-/// What an example says: "Example: `CALL` of `BYTES` with SLICES: refused NUMBER at OFFSET."
+/// What an example says: "Example: `CALL` of `BYTES` with SLICES: refused NUMBER at OFFSET.", or the
+/// same without slices.
 fn example(line: &str) -> Option<(Call, Refusal)> {
     let (name, rest) = line.strip_prefix("Example: `")?.split_once("` of `")?;
-    let (bytes, rest) = rest.split_once("` with ")?;
+    let (bytes, rest) = rest.split_once('`')?;
     let (slices, refusal) = rest.split_once(": refused ")?;
     let (refused, offset) = refusal.strip_suffix('.')?.split_once(" at ")?;
     let refusal = Refusal::new(refused.parse().ok()?, number(offset)?);
@@ -119,10 +121,13 @@ fn examples_are_those_of_document_01() {
     let examples = sections(&page)
         .into_iter()
         .map(|(_, section)| match only_example(section).0 {
-            Call::Read { bytes, .. } | Call::Draw { bytes, .. } => bytes,
+            Call::Read { bytes, .. } | Call::Draw { bytes, .. } | Call::Narrowest { bytes } => {
+                bytes
+            }
             call => panic!("{call:?}"),
         });
+    let crossing = crossing().bytes();
     let document = REFUSED.iter().map(|&(_, bytes)| bytes);
-    let document = document.chain([&ONE_NODE[..], &NO_DRAWING[..]]);
+    let document = document.chain([&ONE_NODE[..], &NO_DRAWING[..], &crossing]);
     assert!(examples.eq(document));
 }
