@@ -45,6 +45,7 @@ fn damaged_tiny_sheets() {
     let tally = compare_damaged("tiny", (151, 5_000), generate::tiny);
     check_refusals(&tally, [5_000, 2_000, 4_000, 10_000, 2_000, 4_000]);
     assert!(tally.drawn > 1_000 && tally.undrawn() > 1_000);
+    assert!(tally.narrowed > 5_000 && tally.without_width > 200);
 }
 
 #[test]
@@ -52,6 +53,7 @@ fn damaged_sheets_of_any_numbers() {
     let tally = compare_damaged("any numbers", (152, 3_000), generate::good);
     check_refusals(&tally, [2_000, 700, 3_000, 7_000, 2_000, 2_000]);
     assert!(tally.drawn > 100 && tally.undrawn() > 100);
+    assert!(tally.narrowed > 1_000 && tally.without_width > 1_000);
 }
 
 #[test]

@@ -28,6 +28,7 @@ fn all_sheets_within_very_small_limits() {
     tally.print("very small, all there are");
     assert_eq!((tally.sheets, tally.undrawn()), (27_208, 18_300));
     assert!(tally.drawn > 6_000 && tally.long > 1_000);
+    assert_eq!((tally.narrowed, tally.without_width), (23_032, 4_176));
 }
 
 #[test]
@@ -43,6 +44,7 @@ fn tiny_sheets() {
     tally.print("tiny");
     assert!(tally.drawn > 4_000 && tally.long > 1_000 && tally.yes > 10_000);
     assert!(tally.undrawn() > 2_000);
+    assert!(tally.narrowed > 8_000 && tally.without_width > 300);
 }
 
 #[test]
@@ -50,18 +52,21 @@ fn small_sheets() {
     let tally = Tally::of_random(&Proved, "small", (102, 20_000), generate::small);
     assert!(tally.drawn > 6_000 && tally.long > 4_000);
     assert!(tally.undrawn() > 4_000);
+    assert!(tally.narrowed > 14_000 && tally.without_width > 3_000);
 }
 
 #[test]
 fn sheets_of_any_numbers() {
     let tally = Tally::of_random(&Proved, "any numbers", (103, 5_000), generate::good);
     assert!(tally.drawn > 500 && tally.undrawn() > 1_000);
+    assert!(tally.narrowed > 1_500 && tally.without_width > 2_000);
 }
 
 #[test]
 fn medium_sheets() {
     let tally = Tally::of_random(&Proved, "medium", (104, 5_000), sizes::medium);
     assert_eq!(tally.drawn, 5_000 * scale());
+    assert_eq!(tally.narrowed, tally.sheets);
     assert!(tally.long > tally.sheets / 2);
 }
 
@@ -69,6 +74,7 @@ fn medium_sheets() {
 fn sheets_with_parallel_edges() {
     let tally = Tally::of_random(&Proved, "parallel edges", (105, 3_000), sizes::parallel);
     assert_eq!(tally.drawn, 3_000 * scale());
+    assert_eq!(tally.narrowed, tally.sheets);
     assert!(tally.long > tally.sheets / 2);
 }
 
@@ -76,6 +82,7 @@ fn sheets_with_parallel_edges() {
 fn realistic_sheets() {
     let tally = Tally::of_random(&Proved, "realistic", (106, 4_000), realistic::any);
     assert!(tally.drawn > tally.sheets / 2 && tally.long > tally.sheets / 2);
+    assert!(tally.narrowed > tally.sheets / 2 && tally.without_width > 20);
 }
 
 /// Compares sheets of full size in this many layers.
@@ -84,6 +91,7 @@ fn compare_full(layers: u16) {
     let full = |random: &mut Random| sizes::full(random, layers);
     let tally = Tally::of_random(&Proved, &kind, (110 + u64::from(layers), 200), full);
     assert_eq!(tally.drawn, 200 * scale());
+    assert_eq!(tally.narrowed, tally.sheets);
     assert!(tally.long > tally.sheets / 2);
 }
 
@@ -104,5 +112,5 @@ fn full_sheets_of_many_layers() {
 #[test]
 fn fullest_sheets() {
     let tally = Tally::of(&Proved, "fullest", (1..=64).map(generate::fullest));
-    assert_eq!(tally.undrawn(), 64);
+    assert_eq!((tally.undrawn(), tally.without_width), (64, 64));
 }

@@ -12,21 +12,25 @@ use strip_tests::families::{realistic, sizes, widths};
 use strip_tests::generate;
 use strip_tests::random::Random;
 
-/// Compares sheets in the narrowest width in which they have a drawing, and next to it.
+/// Compares sheets in the narrowest width in which the engine draws them, and next to it.
 fn compare_narrowest(kind: &str, seed: u64, count: usize, draft: impl Fn(&mut Random) -> Draft) {
     let mut random = Random::new(seed);
     let mut tally = Tally::default();
-    let mut is_drawn = |draft: &Draft, width: u16| {
+    let mut answer = |draft: &Draft, width: u16| {
         let narrow = widths::in_width(draft, width);
         let outcome = compare::sheet(&Proved, &narrow.bytes());
         tally.add(&outcome);
-        outcome.drawn.is_ok()
+        let least = outcome.minimum.map(|minimum| minimum.width);
+        (outcome.drawn.is_ok(), least)
     };
     for _ in 0..count * scale() {
         let draft = draft(&mut random);
         if let Some(width) = widths::narrowest(&draft) {
-            assert!(is_drawn(&draft, width) && is_drawn(&draft, width + 1));
-            assert!(width == 0 || !is_drawn(&draft, width - 1));
+            assert_eq!(answer(&draft, width), (true, Ok(width)));
+            assert_eq!(answer(&draft, width + 1), (true, Ok(width)));
+            if width > 0 {
+                assert_eq!(answer(&draft, width - 1), (false, Ok(width)));
+            }
         }
     }
     tally.print(kind);
@@ -110,6 +114,7 @@ fn straight_edges_that_cross() {
     }
     tally.print("crossing straight edges");
     assert_eq!(tally.undrawn(), tally.sheets);
+    assert_eq!(tally.without_width, tally.sheets);
     assert!(tally.undrawn() > 900);
 }
 
@@ -121,7 +126,7 @@ fn greatest_total_of_any_sheet() {
 }
 
 #[test]
-fn turned_sheets_keep_their_totals() {
+fn turned_sheets_keep_their_totals_and_widths() {
     let mut random = Random::new(136);
     let (mut tally, mut tally_turned) = (Tally::default(), Tally::default());
     for _ in 0..1_500 * scale() {
@@ -136,6 +141,7 @@ fn turned_sheets_keep_their_totals() {
             let other = compare::sheet(&Proved, &turned.bytes());
             let other_total = other.drawn.as_ref().map(|&(total, _)| total);
             assert_eq!(other_total, total, "{draft:?}");
+            assert_eq!(other.minimum, outcome.minimum, "{draft:?}");
             tally_turned.add(&other);
         }
         tally.add(&outcome);
