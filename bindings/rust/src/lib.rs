@@ -193,8 +193,8 @@ pub fn check(sheet: &[u8], places: &[u16], list: &[i32]) -> Result<bool, Refusal
     value(answer).map(|word| word == 1)
 }
 
-/// Tells the minimum width of a sheet, the least at which it has a drawing, whatever its own width is;
-/// and the least total at that width.
+/// Tells the minimum width of a sheet, the least at which it has a drawing, and the least total at
+/// that width. The sheet's own width does not count.
 ///
 /// Refusals 1 to 6 and 10.
 ///

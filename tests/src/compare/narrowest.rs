@@ -17,7 +17,7 @@ pub fn told(library: &impl Library, bytes: &[u8]) -> Result<Minimum, Refusal> {
 /// Compares the minimum width of a good sheet with these numbers, and gives it.
 ///
 /// The library must tell the same of the sheet in other widths. It must draw the sheet in the minimum
-/// width with the total told, and in none that is less; in no width at all where there is no minimum.
+/// width with the total told, and not in one less; where there is no minimum, not in the greatest.
 pub fn good(library: &impl Library, bytes: &[u8], numbers: &[u16]) -> Result<Minimum, Refusal> {
     let answer = told(library, bytes);
     let (drawn, undrawn) = match answer {

@@ -12,7 +12,7 @@ pub fn in_width(draft: &Draft, width: u16) -> Draft {
     }
 }
 
-/// The narrowest width in which a sheet has a drawing, if it has one in any.
+/// The narrowest width in which the engine draws a sheet, if it does in any: found by halving.
 pub fn narrowest(draft: &Draft) -> Option<u16> {
     let is_drawn = |width: u16| solve(&in_width(draft, width).sheet()).is_some();
     if !is_drawn(WIDTH_LIMIT) {
