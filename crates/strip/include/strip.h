@@ -40,7 +40,7 @@ extern "C" {
 #define STRIP_MAX_PLACES 256
 /* The greatest count of numbers in a list: one for each edge and two for each node. */
 #define STRIP_MAX_LIST 1024
-/* The stack that any of the functions needs, in bytes. strip_draw needs the most. */
+/* The stack that any of the functions needs, in bytes. strip_narrowest needs the most. */
 #define STRIP_STACK_BYTES 53248
 
 /* The values of strip_refusal(). 9 is not used: later numbers begin at 10. */
