@@ -39,6 +39,12 @@ number-of word = word / number-unit % part-range
 abbrev pub value-of : ℕ → ℕ
 value-of word = word % number-unit
 
+-- all three
+pub record Parts (word second number value : ℕ) : Type 0 where
+  pub second-is : second-of word ≡ second
+  pub number-is : number-of word ≡ number
+  pub value-is : value-of word ≡ value
+
 -- the numbers that a word tells of a result
 pub record Told : Type 0 where
   pub second : ℕ
@@ -85,6 +91,10 @@ judgement-word = reply-word yes-no
 -- of the minimum width
 abbrev pub narrowed-word : Narrowed → ℕ
 narrowed-word = reply-word total-width
+
+-- the width and the total that such a word tells where nothing is refused
+abbrev pub minimum-of : ℕ → Narrowest
+minimum-of word = record { width = second-of word; total = value-of word }
 
 -- a word tells what drawing a sheet answers, with the slices before and after
 abbrev pub DrawsWord : Result → List ℕ → List ℤ → List ℕ → List ℤ → ℕ → Type 0

@@ -128,10 +128,18 @@ network-widened width s a =
     ∙ ap₂ _++_ (edges-stay (S .nodes) width (S .edges) (accepts-proper s a .ends))
     (layers-widened (S .nodes) width (S .width) (getD s layers-at 0) 0 (drop first-layer-at s) (g .layers))
 
+-- so do its packed arcs, whatever stands behind them
+pub sheet-widened : (width : ℕ) (s : List ℕ) → Accepts sheet s → (behind : List ℕ)
+    → widened (sheet-of s .nodes) width (packed (network (sheet-of s)) ++ behind)
+    ≡ packed (network (at-width width (sheet-of s))) ++ widened (sheet-of s .nodes) width behind
+unfolding packed
+sheet-widened width s a behind =
+    widened-packs (sheet-of s .nodes) width (network (sheet-of s) .arcs) behind
+    ∙ ap (λ (l : List Arc). packs l ++ widened (sheet-of s .nodes) width behind) (network-widened width s a)
+
 module _ {a : List ℕ} {c : Counts} (width : ℕ) (l : width ≤ max-width) (h : Holds a c) where
   -- the packed arcs of a good sheet stay those of a good sheet, with the same counts
   pub holds-width : Holds (widened (c .nodes) width a) c
-  unfolding packed
   holds-width =
       let S : Sheet = sheet-of (h .numbers) in
       let arcs : List Arc = network S .arcs in
@@ -144,8 +152,8 @@ module _ {a : List ℕ} {c : Counts} (width : ℕ) (l : width ≤ max-width) (h 
         behind = widened (S .nodes) width (h .behind);
         packed-are =
             ap₂ (λ (ground : ℕ) (l : List ℕ). widened ground width l) (h .nodes-are) (h .packed-are)
-            ∙ widened-packs (S .nodes) width arcs (h .behind)
-            ∙ ap (λ (l : List Arc). packs l ++ widened (S .nodes) width (h .behind)) became;
+            ∙ sheet-widened width (h .numbers) (h .good) (h .behind)
+            ∙ ap (λ (S : Sheet). packed (network S) ++ widened (sheet-of (h .numbers) .nodes) width (h .behind)) (sym same);
         nodes-are = h .nodes-are ∙ ap (λ (S : Sheet). S .nodes) (sym same);
         edges-are = h .edges-are ∙ ap (λ (S : Sheet). length (S .edges)) (sym same);
         arcs-are = h .arcs-are ∙ sym (length-map arcs (at-kink (S .nodes) width)) ∙ ap length became;

@@ -10,13 +10,9 @@ use Rattle.sheet.specs.Reading.{read-sheet}
 use Rattle.engine.specs.declared.Narrowest.{Narrowest}
 use Rattle.engine.specs.MinimumWidth.{Narrowed, Narrows}
 use Rattle.engine.specs.laws.MinimumWidth.{narrowest-determined}
-use Rattle.strip.specs.Words.{second-of, number-of, value-of, reply-word, narrowed-word, NarrowsWord}
-use Rattle.strip.specs.laws.ReadBack.{Parts, parts-back}
+use Rattle.strip.specs.Words.{number-of, Parts, minimum-of, reply-word, narrowed-word, NarrowsWord}
+use Rattle.strip.specs.laws.ReadBack.{parts-back}
 use Rattle.strip.specs.laws.Values.{narrowing-held}
-
--- the width and the total that a word tells where nothing is refused
-abbrev pub minimum-of : ℕ → Narrowest
-minimum-of word = record { width = second-of word; total = value-of word }
 
 module _ (bytes : List ℕ) (word : ℕ) (g : NarrowsWord (read-sheet bytes) word) where
   -- it is the word of every answer that meets the contract

@@ -2,13 +2,7 @@
 use Prim.Native.Nat.{ℕ, _<_}
 use mathlib.Core.Path.{_≡_, _∙_, ap}
 use native.Mathlib.Omega.{arith}
-use Rattle.strip.specs.Words.{number-unit, part-range, packed, second-of, number-of, value-of}
-
--- what is read back from a word
-pub record Parts (word second number value : ℕ) : Type 0 where
-  pub second-is : second-of word ≡ second
-  pub number-is : number-of word ≡ number
-  pub value-is : value-of word ≡ value
+use Rattle.strip.specs.Words.{number-unit, part-range, packed, second-of, number-of, value-of, Parts}
 
 module _ (second number value : ℕ) (n : number < part-range) (v : value < number-unit) where
   -- the second value
