@@ -6,16 +6,6 @@ use network::layout::TAIL;
 ghost use mathlib.Core.Path.{_≡_};
 ghost use Rattle.arcs.specs.Widths.{«widened-kink», widened};
 
-// The kink of an arc by its tail, as it is stored: the width where the arc leaves ground, else what it was.
-fn widened_kink(ground: usize, width: u16, tail: u32, kink: u32) -> u32
-    ensures { λ r. ⌜ r ≡ widened-kink ground width tail kink ⌝ }
-{
-    if tail as usize == ground {
-        return (KINK_ZERO + width as usize) as u32;
-    }
-    kink
-}
-
 // Sets the width of packed arcs: the kink of every arc that leaves ground, since those are the right boundaries.
 pub fn set_width(arcs: &mut [u32], ground: usize, width: u16)
     ensures { λ _. ⌜ now (arcs .exit) ≡ widened ground width (now (arcs .entry)) ⌝ }
@@ -27,4 +17,14 @@ pub fn set_width(arcs: &mut [u32], ground: usize, width: u16)
         at += STRIDE;
         left -= 1;
     }
+}
+
+// The kink of an arc by its tail, as it is stored: the width where the arc leaves ground, else what it was.
+fn widened_kink(ground: usize, width: u16, tail: u32, kink: u32) -> u32
+    ensures { λ r. ⌜ r ≡ widened-kink ground width tail kink ⌝ }
+{
+    if tail as usize == ground {
+        return (KINK_ZERO + width as usize) as u32;
+    }
+    kink
 }
