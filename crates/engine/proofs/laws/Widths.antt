@@ -31,7 +31,8 @@ use Rattle.engine.specs.Draws.{Drawn, result, DrawsSheet}
 use Rattle.engine.specs.MinimumWidth.{Narrowed, narrowing, NarrowsSheet, Narrows}
 use Rattle.engine.specs.inside.Stages.{DrawsHeld}
 use Rattle.engine.specs.inside.Widths.{TotalsAt, TotalHeld, NarrowsHeld, LowestHeld}
-use Rattle.engine.specs.laws.MinimumWidth.{any-width, drawn-totals}
+use Rattle.engine.specs.laws.MinimumWidth.{any-width}
+use Rattle.engine.specs.laws.TotalsAt.{drawn-totals}
 use Rattle.engine.specs.declared.Minimum.{Minimum}
 use Rattle.engine.specs.declared.Minimum.the-variants.{Found, Refused}
 use Rattle.engine.specs.declared.Answer.{Answer}

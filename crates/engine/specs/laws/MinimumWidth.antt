@@ -6,7 +6,7 @@ use mathlib.Core.Logic.{⊎-elim}
 use mathlib.Core.List.{List}
 use native.Mathlib.Omega.{arith}
 use lib.IntN.{ℤ}
-use lib.ListN.{length, take, drop}
+use lib.ListN.{length, drop}
 use Rattle.leb128.specs.Grammar.{Accepts}
 use Rattle.leb128.specs.Reply.{Reply}
 use Rattle.leb128.specs.Source.{refusal}
@@ -20,7 +20,6 @@ use Rattle.sheet.specs.Limits.{max-width}
 use Rattle.sheet.specs.Reading.{read-sheet}
 use Rattle.sheet.specs.laws.Sheets.{read-accepted, reader-refusals}
 use Rattle.drawing.specs.Sheet.{Sheet, sheet-of, at-width}
-use Rattle.drawing.specs.Drawing.{NoDrawing}
 use Rattle.drawing.specs.Widths.{with-width, TotalAt}
 use Rattle.drawing.specs.Proper.{max-total, Proper}
 use Rattle.drawing.specs.laws.Proper.{accepts-proper}
@@ -32,7 +31,7 @@ use Rattle.engine.specs.Draws.{Drawn, Room, DrawsSheet, Draws}
 use Rattle.engine.specs.MinimumWidth.{Narrowed, IsMinimum, NoWidth, NarrowsSheet, Narrows}
 use Rattle.engine.specs.declared.Narrowest.{Narrowest}
 use Rattle.engine.specs.inside.Widths.{TotalsAt}
-use Rattle.engine.specs.laws.Refusals.{refused-none}
+use Rattle.engine.specs.laws.TotalsAt.{drawn-totals, total-drawn, none-drawn}
 
 module _ (S : Sheet) where
   -- where one width is the minimum, some width has a drawing
@@ -108,26 +107,6 @@ narrow-small bytes n g = go (read-sheet bytes) refl g
         let t = g .total-at in
         (g .width-in, omega (arith, t .total-is, total-most _ (t .places) proper (t .least .candidate)))
     go (Result.refused r) e g = absurd (value-not g)
-
--- what drawing a sheet at a width answers, where the slices are long enough: its total there, or 8
-pub drawn-totals : (S : Sheet) (w : ℕ) (p₀ : List ℕ) (y₀ : List ℤ) (p : List ℕ) (y : List ℤ) → Room S (length p₀) (length y₀)
-    → (d : Drawn) → DrawsSheet (at-width w S) p₀ y₀ p y d → TotalsAt S w d
-drawn-totals S w p₀ y₀ p y room (Reply.value t) g =
-    record { places = take (S .nodes) p; least = g .leftmost .is-least; total-is = g .total-is }
-drawn-totals S w p₀ y₀ p y room (Reply.refused r) g =
-    let at-w : Room (at-width w S) (length p₀) (length y₀) = record { nodes = room .nodes; numbers = room .numbers } in
-    let k = refused-none (at-width w S) (length p₀) (length y₀) at-w (g .0) in
-    (ap₂ (λ (n o : ℕ). record { number = n; offset = o }) (k .0) (g .1), k .1)
-
--- where the sheet has a least total at the width, that is it
-total-drawn : (S : Sheet) {w t : ℕ} → TotalAt S w t → (d : Drawn) → TotalsAt S w d → d ≡ Reply.value t
-total-drawn S k (Reply.value u) g = ap Reply.value (one-total S g k)
-total-drawn S k (Reply.refused r) g = absurd (g .1 _ (k .least .candidate))
-
--- where it has no drawing at the width, it is 8
-none-drawn : (S : Sheet) {w : ℕ} → NoDrawing (at-width w S) → (d : Drawn) → TotalsAt S w d → d ≡ Reply.refused (refusal no-drawing 0)
-none-drawn S k (Reply.value u) g = absurd (k _ (g .least .candidate))
-none-drawn S k (Reply.refused r) g = ap Reply.refused (g .0)
 
 module _ (s : List ℕ) (good : Accepts sheet s) (p₀ : List ℕ) (y₀ : List ℤ) (p : List ℕ) (y : List ℤ)
     (room : Room (sheet-of s) (length p₀) (length y₀)) (d : Drawn) where

@@ -27,6 +27,7 @@ use Rattle.checker.specs.laws.Decided.{numbers-decided}
 use Rattle.engine.specs.Refusals.{no-drawing}
 use Rattle.engine.specs.Draws.{Drawn, Room, DrawsSheet, Draws}
 use Rattle.engine.specs.laws.Refusals.{refused-none}
+use Rattle.engine.specs.laws.TotalsAt.{drawn-totals, none-drawn}
 use Rattle.engine.specs.Answers.{EveryDrawing, Answered, EveryAnswered}
 
 -- the answer for a sheet whose leftmost least drawing is known
@@ -43,10 +44,7 @@ drawn-answer S p₀ y₀ p y coordinates total room l e (Reply.refused r) g =
 -- the answer for a sheet without a drawing
 none-answer : (S : Sheet) (p₀ : List ℕ) (y₀ : List ℤ) (p : List ℕ) (y : List ℤ) → Room S (length p₀) (length y₀)
     → NoDrawing S → (d : Drawn) → DrawsSheet S p₀ y₀ p y d → d ≡ Reply.refused (refusal no-drawing 0)
-none-answer S p₀ y₀ p y room n (Reply.value t) g = absurd (n (take (S .nodes) p) (g .leftmost .is-least .candidate))
-none-answer S p₀ y₀ p y room n (Reply.refused r) g =
-    ap₂ (λ (k o : ℕ). Reply.refused (record { number = k; offset = o })) (refused-none S (length p₀) (length y₀) room (g .0) .0)
-    (g .1)
+none-answer S p₀ y₀ p y room n d g = none-drawn S n d (drawn-totals S (S .width) p₀ y₀ p y room d g)
 
 -- the checker's word on places and a list of just the needed lengths
 check-word : (bytes numbers p : List ℕ) (y : List ℤ) (b : Bool) → read-sheet bytes ≡ elements numbers → length p ≡ sheet-of numbers .nodes
