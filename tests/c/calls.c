@@ -20,6 +20,13 @@
         assert(strip_second(given) == 0);                                                          \
     } while (0)
 
+/* That drawing a bad sheet and telling its minimum width are refused alike. */
+#define BAD_SHEET(sheet, number, offset)                                                           \
+    do {                                                                                           \
+        REFUSED(draw(sheet, COUNT(sheet)), number, offset);                                        \
+        REFUSED(strip_narrowest(sheet, COUNT(sheet)), number, offset);                             \
+    } while (0)
+
 /* That an answer is this width and total, in one number and in its three parts. */
 #define NARROWEST(answer, width, total)                                                            \
     do {                                                                                           \
@@ -113,21 +120,15 @@ static void refusals(void) {
     const uint8_t no_width[] = {0x53, 0x50, 0x31, 0, 1, 3, 0xff, 0x1f, 0, 0xff, 0x1f, 0, 0};
 
     paint();
-    REFUSED(draw(ended, COUNT(ended)), STRIP_INPUT_ENDED, 2);
-    REFUSED(draw(other, COUNT(other)), STRIP_NOT_A_SHEET, 0);
-    REFUSED(draw(form, COUNT(form)), STRIP_NUMBER_FORM, 3);
-    REFUSED(draw(outside, COUNT(outside)), STRIP_OUTSIDE_LIMITS, 4);
-    REFUSED(draw(crossed, COUNT(crossed)), STRIP_SEPARATIONS_CROSSED, 7);
-    REFUSED(draw(follows, COUNT(follows)), STRIP_SOMETHING_FOLLOWS, 7);
+    BAD_SHEET(ended, STRIP_INPUT_ENDED, 2);
+    BAD_SHEET(other, STRIP_NOT_A_SHEET, 0);
+    BAD_SHEET(form, STRIP_NUMBER_FORM, 3);
+    BAD_SHEET(outside, STRIP_OUTSIDE_LIMITS, 4);
+    BAD_SHEET(crossed, STRIP_SEPARATIONS_CROSSED, 7);
+    BAD_SHEET(follows, STRIP_SOMETHING_FOLLOWS, 7);
     REFUSED(strip_draw(one_node, COUNT(one_node), room.places, 0, room.list, 2),
             STRIP_SLICE_SHORT, 0);
     REFUSED(draw(no_drawing, COUNT(no_drawing)), STRIP_NO_DRAWING, 0);
-    REFUSED(strip_narrowest(ended, COUNT(ended)), STRIP_INPUT_ENDED, 2);
-    REFUSED(strip_narrowest(other, COUNT(other)), STRIP_NOT_A_SHEET, 0);
-    REFUSED(strip_narrowest(form, COUNT(form)), STRIP_NUMBER_FORM, 3);
-    REFUSED(strip_narrowest(outside, COUNT(outside)), STRIP_OUTSIDE_LIMITS, 4);
-    REFUSED(strip_narrowest(crossed, COUNT(crossed)), STRIP_SEPARATIONS_CROSSED, 7);
-    REFUSED(strip_narrowest(follows, COUNT(follows)), STRIP_SOMETHING_FOLLOWS, 7);
     REFUSED(strip_narrowest(no_width, COUNT(no_width)), STRIP_NO_WIDTH, 0);
     NARROWEST(strip_narrowest(no_drawing, COUNT(no_drawing)), 1, 0);
     assert(untouched());

@@ -10,8 +10,8 @@ use second::refusal::Refusal;
 use second::sheet::{PLAIN, STRAIGHT};
 use strip_tests::compare;
 use strip_tests::document::{self, NO_DRAWING, ONE_NODE, REFUSED};
-use strip_tests::draft::Draft;
 use strip_tests::families::sizes::longest_edges;
+use strip_tests::families::widths::layer;
 
 /// Compares all that is answered to a sheet, and gives width and total, or number and offset.
 fn narrowest(bytes: &[u8]) -> Result<(u16, u32), (u32, usize)> {
@@ -23,15 +23,6 @@ fn narrowest(bytes: &[u8]) -> Result<(u16, u32), (u32, usize)> {
 
 /// The refusal of a sheet that has a drawing in no width.
 const NO_WIDTH: Result<(u16, u32), (u32, usize)> = Err((10, 0));
-
-/// A layer with these minima, in width 0.
-fn layer(minima: &[u16]) -> Vec<u8> {
-    let mut draft = Draft::new(0, &[minima.len() as u16 + 1]);
-    for (left, &minimum) in (1..).zip(minima) {
-        draft = draft.separation(1, left, minimum, 0);
-    }
-    draft.bytes()
-}
 
 #[test]
 fn stair() {
@@ -80,14 +71,15 @@ fn one_node() {
 
 #[test]
 fn two_minima_of_4095_in_a_layer() {
-    assert_eq!(narrowest(&layer(&[4095, 4095])), NO_WIDTH);
-    assert_eq!(narrowest(&layer(&[4095, 1])), NO_WIDTH);
+    assert_eq!(narrowest(&layer(&[4095, 4095]).bytes()), NO_WIDTH);
+    assert_eq!(narrowest(&layer(&[4095, 1]).bytes()), NO_WIDTH);
 }
 
 #[test]
 fn exactly_4095() {
     for minima in [&[4095][..], &[4094, 1], &[1, 2000, 2094], &[65; 63]] {
-        assert_eq!(narrowest(&layer(minima)), Ok((4095, 0)), "{minima:?}");
+        let sheet = layer(minima).bytes();
+        assert_eq!(narrowest(&sheet), Ok((4095, 0)), "{minima:?}");
     }
     let longest = longest_edges().bytes();
     assert_eq!(narrowest(&longest), Ok((4095, 2_096_640)));
@@ -95,7 +87,7 @@ fn exactly_4095() {
 
 #[test]
 fn width_0_in_a_sheet_that_needs_3() {
-    let sheet = layer(&[3]);
+    let sheet = layer(&[3]).bytes();
     assert_eq!(narrowest(&sheet), Ok((3, 0)));
     let drawn = compare::sheet(&Proved, &sheet).drawn;
     assert_eq!(drawn, Err(Refusal::new(8, 0)));
@@ -122,7 +114,7 @@ fn the_width_that_does_not_count_is_read() {
 
 #[test]
 fn refusal_6_comes_before_10() {
-    for sheet in [document::crossing().bytes(), layer(&[4095, 4095])] {
+    for sheet in [document::crossing().bytes(), layer(&[4095, 4095]).bytes()] {
         let longer = [&sheet[..], &[0]].concat();
         assert_eq!(narrowest(&longer), Err((6, sheet.len())));
     }

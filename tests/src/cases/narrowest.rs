@@ -5,6 +5,7 @@ use crate::document::{self, NO_DRAWING, ONE_NODE, REFUSED};
 use crate::draft::Draft;
 use crate::families::conflicts::spiral;
 use crate::families::sizes::longest_edges;
+use crate::families::widths::{in_width, layer};
 use second::sheet::{LAYER_LIMIT, PLAIN, STRAIGHT, WIDTH_LIMIT};
 
 impl Group {
@@ -49,18 +50,11 @@ fn sheets() -> Group {
 fn limits() -> Group {
     let mut group = Group::new("the minimum width on either side of the greatest one");
     group.note("4,095");
-    group.narrowest(&three_nodes(4094, 1).bytes());
+    group.narrowest(&layer(&[4094, 1]).bytes());
     group.note("4,096, and twice 4,095: refused");
-    group.narrowest(&three_nodes(4095, 1).bytes());
-    group.narrowest(&three_nodes(4095, 4095).bytes());
+    group.narrowest(&layer(&[4095, 1]).bytes());
+    group.narrowest(&layer(&[4095, 4095]).bytes());
     group
-}
-
-/// A layer of three nodes with these minima, in width 0.
-fn three_nodes(first: u16, second: u16) -> Draft {
-    Draft::new(0, &[3])
-        .separation(1, 1, first, 0)
-        .separation(1, 2, second, 0)
 }
 
 /// The table of refusals.
@@ -80,11 +74,7 @@ fn widths() -> Group {
     for (name, draft) in document::sheets() {
         group.note(&name);
         for width in [0, 1, 2, 3, 127, 128, WIDTH_LIMIT] {
-            let draft = Draft {
-                width,
-                ..draft.clone()
-            };
-            group.narrowest(&draft.bytes());
+            group.narrowest(&in_width(&draft, width).bytes());
         }
     }
     group.note("a width that is outside its limits or badly written: refused");
@@ -138,7 +128,7 @@ fn order() -> Group {
     for tail in tails {
         group.narrowest(&[&crossing[..end], tail].concat());
     }
-    let reversed = three_nodes(4095, 4095).separation(1, 2, 4095, 1);
+    let reversed = layer(&[4095, 4095]).separation(1, 2, 4095, 1);
     group.narrowest(&reversed.bytes());
     group.note("inputs without a sheet: refused");
     for bytes in [&[][..], &[0x53], &[0x53, 0x50, 0x31]] {

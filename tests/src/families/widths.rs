@@ -1,4 +1,4 @@
-//! Sheets in the narrowest width, and one next to it.
+//! Sheets in the narrowest width, and one next to it; layers that need a certain width.
 
 use crate::draft::Draft;
 use second::sheet::WIDTH_LIMIT;
@@ -10,6 +10,15 @@ pub fn in_width(draft: &Draft, width: u16) -> Draft {
         width,
         ..draft.clone()
     }
+}
+
+/// A layer with these minima, in width 0.
+pub fn layer(minima: &[u16]) -> Draft {
+    let mut draft = Draft::new(0, &[minima.len() as u16 + 1]);
+    for (left, &minimum) in (1..).zip(minima) {
+        draft = draft.separation(1, left, minimum, 0);
+    }
+    draft
 }
 
 /// The narrowest width in which the engine draws a sheet, if it does in any: found by halving.
