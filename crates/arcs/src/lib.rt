@@ -10,7 +10,6 @@ mod planning;
 mod widths;
 
 use crate::fill::fill;
-use crate::numbers::number;
 use crate::planning::plan;
 use leb128::Answer;
 use leb128::Refusal;
@@ -18,7 +17,6 @@ use leb128::refusals::SLICE_SHORT;
 pub use lengths::place;
 pub use lengths::total;
 use network::layout::STRIDE;
-use sheet::layout::WIDTH;
 use sheet::limits::MAX_LAYERS;
 use sheet::limits::MAX_NUMBERS;
 pub use widths::set_width;
@@ -97,8 +95,7 @@ fn load_numbers(numbers: &[u16], arcs: &mut [u32]) -> Loaded
             offset: 0,
         });
     }
-    let width = number(numbers, WIDTH);
-    fill(numbers, &first, known, width, arcs);
+    fill(numbers, &first, known, arcs);
     Loaded::Sheet(Counts {
         nodes: nodes,
         edges: edges,

@@ -8,19 +8,25 @@ use lib.Seq.{getD-take, drop-drop}
 use Rattle.leb128.specs.inside.Storing.{Puts}
 use Rattle.leb128.specs.laws.Storing.{sets-front}
 use Rattle.sheet.specs.Limits.{max-nodes, max-edges}
-use Rattle.sheet.specs.Layout.{first-layer-at, nodes-at, edges-at, edge-stride, next-layer}
+use Rattle.sheet.specs.Layout.{width-at, first-layer-at, nodes-at, edges-at, edge-stride, next-layer}
 use Rattle.network.specs.Network.{Arc}
 use Rattle.network.specs.Packed.{stride, packs, packed}
 use Rattle.network.specs.laws.PackedBack.{packs-length}
-use Rattle.drawing.specs.Sheet.{edges-of, first-nodes, sheet-of, at-width}
+use Rattle.drawing.specs.Sheet.{edges-of, first-nodes, sheet-of}
 use Rattle.drawing.specs.Arcs.{edge-arc, layer-arcs, network}
 use Rattle.drawing.specs.laws.Good.{GoodLayers, GoodEdges, GoodRest, Good}
 use Rattle.drawing.specs.laws.Proper.{edges-length}
 use Rattle.drawing.specs.laws.ArcCount.{layers-count}
+use Rattle.arcs.specs.Words.{Small}
 use Rattle.arcs.specs.inside.Pieces.{layers-arcs}
 use Rattle.arcs.specs.inside.Plans.{Planned, written}
 use Rattle.arcs.specs.declared.Plan.{Plan}
 use Rattle.arcs.proofs.laws.Packing.{puts-arcs}
+
+-- the number that stands at the width is the sheet's width
+pub width-read : (s : List ℕ) {w : ℕ} → Small w (getD s width-at 0) → w ≡ sheet-of s .width
+unfolding sheet-of
+width-read s e = e .is
 
 -- the last first node is at most n
 last-few : (n k v : ℕ) (s : List ℕ) → GoodLayers n k v s → v ≤ n → getD (first-nodes k v s) k 0 ≤ n
@@ -98,28 +104,30 @@ module _ {s first : List ℕ} {p : Plan} (g : Good max-nodes s) (planned : Plann
   layers-are w = rw (ground-is, planned .layers)
 
   -- the arcs of the network are those of the edges, then those of the layers
-  arcs-are : (w : ℕ) → network (at-width w (sheet-of s)) .arcs ≡ edge-arcs ++ layers-arcs s (p .layers) w (p .nodes)
+  arcs-are : network (sheet-of s) .arcs ≡ edge-arcs ++ layers-arcs s (p .layers) (sheet-of s .width) (p .nodes)
   unfolding network
-  arcs-are w = sym (ap₂ (λ (l r : List Arc). l ++ r) (ap (map edge-arc) edges-are) (layers-are w))
+  arcs-are = sym (ap₂ (λ (l r : List Arc). l ++ r) (ap (map edge-arc) edges-are) (layers-are (sheet-of s .width)))
 
   -- one arc for each edge, and two for each node
-  pub plan-arcs : (w : ℕ) → length (network (at-width w (sheet-of s)) .arcs) ≡ p .edges + 2 * p .nodes
-  plan-arcs w =
-      ap length (arcs-are w)
-      ∙ length-append edge-arcs (layers-arcs s (p .layers) w (p .nodes))
-      ∙ omega (arith, edges-count, layers-room w)
+  pub plan-arcs : length (network (sheet-of s) .arcs) ≡ p .edges + 2 * p .nodes
+  plan-arcs =
+      ap length arcs-are
+      ∙ length-append edge-arcs (layers-arcs s (p .layers) (sheet-of s .width) (p .nodes))
+      ∙ omega (arith, edges-count, layers-room (sheet-of s .width))
 
   -- where the arcs of the edges end
   pub edges-end : {a b : List ℕ} {n m : ℕ} → Puts a n (packs edge-arcs) b m → m ≡ n + stride * p .edges
   edges-end x = omega (arith, x .behind, packs-length edge-arcs, edges-count)
 
   -- edges and layers make the network
-  pub fill-end : {a b c : List ℕ} {m k : ℕ} (w : ℕ) → stride * (p .edges + 2 * p .nodes) ≤ length a
+  pub fill-end : {a b c : List ℕ} {w m k : ℕ} → stride * (p .edges + 2 * p .nodes) ≤ length a → w ≡ sheet-of s .width
       → Puts a 0 (packs edge-arcs) b m → Puts b m (packs (layers-arcs s (p .layers) w (p .nodes))) c k
-      → c ≡ written (network (at-width w (sheet-of s))) a
+      → c ≡ written (network (sheet-of s)) a
   unfolding written packed
-  fill-end {a} {c = c} {k = k} w room x y =
-      let arcs : List Arc = network (at-width w (sheet-of s)) .arcs in
-      let all : Puts a 0 (packs arcs) c k = rw (arcs-are w) (puts-arcs edge-arcs (layers-arcs s (p .layers) w (p .nodes)) x y) in
+  fill-end {a} {b} {c} {m = m} {k = k} room e x y =
+      let arcs : List Arc = network (sheet-of s) .arcs in
+      let layers : List Arc = layers-arcs s (p .layers) (sheet-of s .width) (p .nodes) in
+      let y : Puts b m (packs layers) c k = rw e at y in
+      let all : Puts a 0 (packs arcs) c k = rw arcs-are (puts-arcs edge-arcs layers x y) in
       let size : length (packs arcs) ≡ stride * length arcs = packs-length arcs in
-      all .stored ∙ sets-front (packs arcs) a (omega (arith, size, plan-arcs w)) ∙ ap (λ (n : ℕ). packs arcs ++ drop n a) size
+      all .stored ∙ sets-front (packs arcs) a (omega (arith, size, plan-arcs)) ∙ ap (λ (n : ℕ). packs arcs ++ drop n a) size

@@ -3,7 +3,7 @@ use Prim.Native.Nat.{ℕ, _+_, _-_, _*_, _≤_, _<_}
 use mathlib.Core.Path.{_≡_, sym, _∙_, ap}
 use mathlib.Core.List.{List}
 use native.Mathlib.Omega.{arith}
-use lib.ListN.{length, getD, take}
+use lib.ListN.{length, take}
 use Rattle.leb128.specs.Refusals.{slice-short}
 use Rattle.leb128.specs.Source.{refusal}
 use Rattle.leb128.specs.Format.{Result, outcome, answered, filled}
@@ -13,17 +13,15 @@ use Rattle.leb128.specs.declared.Refusal.{Refusal}
 use Rattle.leb128.specs.declared.Answer.{Answer}
 use Rattle.leb128.specs.declared.Answer.the-variants.{Done, Refused}
 use Rattle.sheet.specs.Limits.{max-nodes, max-numbers}
-use Rattle.sheet.specs.Layout.{width-at}
 use Rattle.sheet.specs.Reading.{read-sheet}
 use Rattle.sheet.specs.laws.Sheets.{good-layout}
 use Rattle.sheet.specs.laws.ReadInto.{read-is, read-good, read-refused}
 use Rattle.network.specs.Packed.{stride, packed}
-use Rattle.drawing.specs.Sheet.{sheet-of, at-width}
+use Rattle.drawing.specs.Sheet.{sheet-of}
 use Rattle.drawing.specs.Arcs.{network}
 use Rattle.drawing.specs.laws.Good.{Good}
 use Rattle.drawing.specs.laws.GoodNumbers.{accepts-good}
 use Rattle.arcs.specs.Loading.{loading, arcs-size, counts-of, load-answer, load-slice}
-use Rattle.arcs.specs.Words.{Small}
 use Rattle.arcs.specs.inside.Plans.{Planned, written}
 use Rattle.arcs.specs.laws.Fitting.{short-answer, short-slice, long-answer, long-slice}
 use Rattle.arcs.specs.declared.Counts.{Counts}
@@ -35,7 +33,7 @@ use Rattle.arcs.proofs.laws.Fill.{plan-arcs, plan-nodes, plan-edges}
 module _ {s first : List ℕ} {p : Plan} (g : Good max-nodes s) (planned : Planned s first p) (a : List ℕ) where
   -- how many elements the arcs take
   size-is : arcs-size (sheet-of s) ≡ stride * (p .edges + 2 * p .nodes)
-  size-is = ap (λ (n : ℕ). stride * n) (plan-arcs g planned (sheet-of s .width))
+  size-is = ap (λ (n : ℕ). stride * n) (plan-arcs g planned)
 
   module _ (h : length a < stride * (p .edges + 2 * p .nodes)) where
     -- too short: the answer
@@ -50,7 +48,7 @@ module _ {s first : List ℕ} {p : Plan} (g : Good max-nodes s) (planned : Plann
   module _ (h : stride * (p .edges + 2 * p .nodes) ≤ length a) where
     -- the sheet's counts are the plan's
     counts : counts-of (sheet-of s) ≡ record { nodes = p .nodes; edges = p .edges; arcs = p .edges + 2 * p .nodes }
-    counts = cc (plan-nodes g planned, plan-edges g planned, plan-arcs g planned (sheet-of s .width))
+    counts = cc (plan-nodes g planned, plan-edges g planned, plan-arcs g planned)
 
     -- long enough: the answer
     pub long-enough-answer : loading (loaded.Sheet (record { nodes = p .nodes; edges = p .edges; arcs = p .edges + 2 * p .nodes }))
@@ -59,11 +57,9 @@ module _ {s first : List ℕ} {p : Plan} (g : Good max-nodes s) (planned : Plann
     long-enough-answer = sym (long-answer s (length a) (omega (arith, size-is)) ∙ ap Reply.value counts)
 
     -- long enough: the slice
-    pub long-enough-slice : {width : ℕ} {b : List ℕ} → Small width (getD s width-at 0)
-        → b ≡ written (network (at-width width (sheet-of s))) a → b ≡ load-slice (elements s) a
-    unfolding written packed sheet-of
-    long-enough-slice e f =
-        f ∙ ap (λ (w : ℕ). written (network (at-width w (sheet-of s))) a) (e .is) ∙ sym (long-slice s a (omega (arith, size-is)))
+    pub long-enough-slice : {b : List ℕ} → b ≡ written (network (sheet-of s)) a → b ≡ load-slice (elements s) a
+    unfolding written packed
+    long-enough-slice f = f ∙ sym (long-slice s a (omega (arith, size-is)))
 
 -- what the reader answered and left
 module _ {answer : Answer} (bytes old new : List ℕ) (e : outcome answer ≡ answered (length old) (read-sheet bytes))

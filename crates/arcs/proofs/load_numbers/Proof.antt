@@ -38,9 +38,6 @@ returns c =
       too-short-slice (start .pre) (plan .ensures) (start .args .arcs .now) (c .if1 .taken),
     )
 
-number-requires : tie.Need-number-requires
-number-requires c κs = search needs
-
 slice-aggregate-fill : tie.Need-slice-aggregate-fill
 slice-aggregate-fill c = search needs
 
@@ -52,12 +49,11 @@ same-length c = search needs
 
 returns-2 : tie.Need-returns-2
 returns-2 c =
-    let start = c .before .before .before .before .before .before .before .before .before .before .before .before in
-    let plan = c .before .before .before .before .before .before .before .before .plan in
-    let if1 = c .before .before .before .before .before .before .if1 in
-    let number = c .before .before .before .before .before .number in (
+    let start = c .before .before .before .before .before .before .before .before .before .before .before in
+    let plan = c .before .before .before .before .before .before .before .plan in
+    let if1 = c .before .before .before .before .before .if1 in (
       long-enough-answer (start .pre) (plan .ensures) (start .args .arcs .now) (omega (arith, if1 .left)),
-      long-enough-slice (start .pre) (plan .ensures) (start .args .arcs .now) (omega (arith, if1 .left)) (number .ensures)
+      long-enough-slice (start .pre) (plan .ensures) (start .args .arcs .now) (omega (arith, if1 .left))
           (c .before .before .fill .ensures),
     )
 
@@ -71,7 +67,6 @@ load-numbers-spec =
     add-count
     mul-if1
     returns
-    number-requires
     slice-aggregate-fill
     fill-requires
     same-length
