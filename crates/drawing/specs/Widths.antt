@@ -1,7 +1,7 @@
 -- Drawings of a sheet at other widths.
-use Prim.Native.Nat.{ℕ, max}
+use Prim.Native.Nat.{ℕ}
 use mathlib.Core.Path.{_≡_}
-use mathlib.Core.List.{List, [], _∷_}
+use mathlib.Core.List.{List}
 use lib.ListN.{set}
 use Rattle.sheet.specs.Layout.{width-at}
 use Rattle.drawing.specs.Sheet.{Sheet, at-width}
@@ -16,8 +16,3 @@ pub record TotalAt (S : Sheet) (width total : ℕ) : Type 0 where
   pub places : List ℕ
   pub least : LeastDrawing (at-width width S) places
   pub total-is : total ≡ total-length (at-width width S) places
-
--- the greatest coordinate; of none: 0
-abbrev pub greatest : List ℕ → ℕ
-greatest [] = 0
-greatest (x ∷ xs) = max x (greatest xs)

@@ -16,7 +16,7 @@ ghost use mathlib.Core.Path.{_≡_};
 ghost use Prim.Native.Nat.{_≤_, _<_, max};
 ghost use Rattle.leb128.specs.Limits.{«list-limit»};
 ghost use Rattle.sheet.specs.Limits.{«max-width»};
-ghost use Rattle.drawing.specs.Widths.{greatest};
+ghost use Rattle.drawing.specs.laws.Widths.{greatest};
 ghost use Rattle.arcs.specs.Widths.{widened};
 ghost use Rattle.arcs.specs.laws.HeldArcs.{Holds};
 ghost use Rattle.engine.specs.Draws.{result};

@@ -1,6 +1,6 @@
 -- Other widths: the numbers with another width are those of the sheet at that width, and a drawing is one at every width that no
 -- coordinate passes. So the greatest coordinate of the lowest drawing is the minimum width.
-use Prim.Native.Nat.{ℕ, zero, suc, _≤_, _<_, zero-le}
+use Prim.Native.Nat.{ℕ, zero, suc, max, _≤_, _<_, zero-le}
 use mathlib.Core.Path.{_≡_, refl, sym, _∙_, ap}
 use mathlib.Core.List.{List, [], _∷_}
 use native.Mathlib.Omega.{arith}
@@ -12,7 +12,7 @@ use Rattle.sheet.specs.Limits.{max-width}
 use Rattle.sheet.specs.Grammar.{sheet}
 use Rattle.drawing.specs.Sheet.{Sheet, sheet-of, at-width}
 use Rattle.drawing.specs.Drawing.{coordinate, Drawing, NoDrawing}
-use Rattle.drawing.specs.Widths.{with-width, TotalAt, greatest}
+use Rattle.drawing.specs.Widths.{with-width, TotalAt}
 use Rattle.drawing.specs.laws.SameDrawings.{inside-at, at-inside}
 
 -- a width within its limits is taken
@@ -39,6 +39,11 @@ of-behind width (n ∷ s) = refl
 -- so numbers that agree there are those of one sheet, at any width
 pub same-behind : (width : ℕ) (s t : List ℕ) → drop 1 s ≡ drop 1 t → at-width width (sheet-of s) ≡ at-width width (sheet-of t)
 same-behind width s t e = of-behind width s ∙ ap (λ (l : List ℕ). at-width width (sheet-of (0 ∷ l))) e ∙ sym (of-behind width t)
+
+-- the greatest coordinate; of none: 0
+abbrev pub greatest : List ℕ → ℕ
+greatest [] = 0
+greatest (x ∷ xs) = max x (greatest xs)
 
 -- no coordinate is greater
 greatest-at : (p : List ℕ) (v : ℕ) → coordinate p v ≤ greatest p

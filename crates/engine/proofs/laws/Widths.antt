@@ -16,9 +16,8 @@ use Rattle.network.specs.Network.{Network, Feasible, integers}
 use Rattle.network.specs.Net.{net, meant}
 use Rattle.drawing.specs.Sheet.{Sheet, sheet-of, at-width}
 use Rattle.drawing.specs.Drawing.{NoDrawing}
-use Rattle.drawing.specs.Widths.{greatest}
 use Rattle.drawing.specs.laws.SameDrawings.{feasible-drawing}
-use Rattle.drawing.specs.laws.Widths.{LowestAt, none-narrower, greatest-in, drawing-narrow, narrower-none}
+use Rattle.drawing.specs.laws.Widths.{greatest, LowestAt, none-narrower, greatest-in, drawing-narrow, narrower-none}
 use Rattle.difference.specs.Solutions.{Lowest, NoneFeasible}
 use Rattle.arcs.specs.Limits.{max-arcs}
 use Rattle.arcs.specs.Widths.{widened}

@@ -3,7 +3,7 @@ use Prim.Native.Nat.{max, _-_}
 use mathlib.Core.Path.{_≡_}
 use native.Mathlib.Omega.{arith}
 use lib.ListN.{length, drop}
-use Rattle.drawing.specs.Widths.{greatest}
+use Rattle.drawing.specs.laws.Widths.{greatest}
 use borrow.Author.Needs.{needs}
 use Rattle.engine.proofs.laws.Widths.{greatest-next, greatest-end}
 use Rattle.engine.proofs.widths.greatest.Statement.{statement}
