@@ -3,6 +3,7 @@ pub mod Layout
 pub mod Nodes
 pub mod Refusals
 pub mod Grammar
+pub mod Coordinates
 pub mod Reading
 pub mod inside
 pub mod laws

@@ -1,4 +1,4 @@
--- The limits of document 01, "The sheet", each once.
+-- The limits of document 01, "The sheet", and of document 02, ticket 3, each once.
 use Prim.Native.Nat.{ℕ, _+_, _*_}
 use mathlib.Core.List.{List, [], _∷_}
 use lib.ListN.{length}
@@ -43,3 +43,19 @@ max-numbers = 2559
 -- the bytes of a sheet, were each of its numbers to take all the bytes allowed: 5,121
 abbrev pub max-bytes : ℕ
 max-bytes = length magic + number-bytes * max-numbers
+
+-- the bytes that a coordinate file (drawing file) starts with: S, D, 1
+abbrev pub coordinate-magic : List ℕ
+coordinate-magic = 0x53 ∷ 0x44 ∷ 0x31 ∷ []
+
+-- a coordinate (place) in such a file
+abbrev pub max-coordinate : ℕ
+max-coordinate = 4095
+
+-- the numbers of such a file: the count of layers, a count for each layer, a coordinate for each node
+abbrev pub max-coordinate-numbers : ℕ
+max-coordinate-numbers = 1 + max-layers + max-nodes
+
+-- the bytes of such a file, were each of its numbers to take all the bytes allowed: 645
+abbrev pub max-coordinate-bytes : ℕ
+max-coordinate-bytes = length coordinate-magic + number-bytes * max-coordinate-numbers

@@ -3,3 +3,4 @@ pub mod LaidOut
 pub mod Sheets
 pub mod Nodes
 pub mod ReadInto
+pub mod Coordinates

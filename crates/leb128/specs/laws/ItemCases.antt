@@ -46,6 +46,13 @@ module _ (bytes : List ℕ) (at n after : ℕ) (there : byte-item bytes at ≡ v
       let s = decode-size number-bytes n (d .0) (drop at bytes) (d .1) in
       (omega (arith, s, d .2), omega (arith, s, d .2))
 
+  -- the number has a form
+  pub has-form : AreBytes bytes → n < number-limit
+  unfolding byte-item
+  has-form h =
+      let d = value-decoded bytes at n after (decode number-bytes (drop at bytes)) there in
+      encode-decode number-bytes n (d .0) (drop at bytes) (λ i. rw getD-drop (h (at + i))) (d .1) .below
+
   -- the bytes that were passed are the number's
   pub passed : AreBytes bytes → drop at bytes ≡ encode number-bytes n ++ drop after bytes
   unfolding byte-item

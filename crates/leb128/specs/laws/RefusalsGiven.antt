@@ -2,15 +2,15 @@
 -- magic, for an answer the slice.
 use Prim.Native.Nat.{ℕ, _<_, _≤_}
 use mathlib.Core.Path.{_≡_, refl, sym, _∙_, ap}
-use mathlib.Core.Bool.{Bool, true, false, cond}
-use mathlib.Core.Logic.{_⊎_, ⊎-elim}
+use mathlib.Core.Bool.{Bool, true, false, cond, _&&_}
+use mathlib.Core.Logic.{_⊎_, inl, inr, ⊎-elim}
 use mathlib.Core.List.{List, _++_}
 use native.Mathlib.Omega.{arith}
-use lib.Dec.{ltb}
+use lib.Dec.{ltb, leb}
 use lib.ListN.{length, take, drop}
 use borrow.Author.Tests.{lt-ltb, le-ltb}
-use Rattle.leb128.specs.Refusals.{input-ended, other-magic, number-form, something-follows, slice-short}
-use Rattle.leb128.specs.Grammar.{Form, Grammar, Rule}
+use Rattle.leb128.specs.Refusals.{input-ended, other-magic, number-form, outside-limits, something-follows, slice-short}
+use Rattle.leb128.specs.Grammar.{Form, Grammar, Rule, within}
 use Rattle.leb128.specs.Number.{Decoded, decode}
 use Rattle.leb128.specs.Limits.{number-bytes}
 use Rattle.leb128.specs.Source.{Source, Item, refusal, decoded-item, byte-item, list-item, raised, in-bytes, in-list}
@@ -19,7 +19,7 @@ use Rattle.leb128.specs.Walk.{Walk, checked, led, followed, walk}
 use Rattle.leb128.specs.Walk.Walk.{whole, refused}
 use Rattle.leb128.specs.Format.{Result, Outcome, same, walk-bytes, complete, walk-list, encoded, made, reading, writing, answered}
 use Rattle.leb128.specs.declared.Refusal.{Refusal}
-use Rattle.leb128.specs.laws.Cases.{lt-or-le, eq-or-ne}
+use Rattle.leb128.specs.laws.Cases.{test, lt-or-le, eq-or-ne}
 use Rattle.leb128.specs.laws.ItemCases.{list-value, list-ended}
 use Rattle.leb128.specs.laws.StepCases.{checked-good, checked-broken, checked-value}
 use Rattle.leb128.specs.laws.EachNumber.{Each}
@@ -29,6 +29,15 @@ module _ (P : ℕ → Type 0) where
   -- a rule gives refusals of P only
   abbrev pub Gives : Form → Rule → Type 0
   Gives form rule = (n : ℕ) → (rule n ≡ 0) ⊎ P (rule n)
+
+  -- limits give refusal 4 only
+  pub within-gives : P outside-limits → (form : Form) (low high : ℕ) → Gives form (within low high)
+  unfolding within
+  within-gives outside form low high n =
+      ⊎-elim
+      (λ (t : (leb low n && leb n high) ≡ true). inl (rw t))
+      (λ (t : (leb low n && leb n high) ≡ false). inr (rw t outside))
+      (test (leb low n && leb n high))
 
   -- a source gives refusals of P only
   abbrev Refuses : Source → Type 0

@@ -7,13 +7,14 @@ use mathlib.Core.Bool.{true, false, _&&_, not}
 use mathlib.Core.List.{List, [], _∷_, _++_}
 use native.Mathlib.Omega.{arith}
 use lib.ListN.{length, getD, length-append}
-use lib.Dec.{ltb, leb, eqb}
+use lib.Dec.{ltb, eqb}
 use borrow.Author.Tests.{eq-eqb, ne-eqb, lt-ltb}
 use Rattle.leb128.specs.Limits.{number-limit, list-limit}
 use Rattle.leb128.specs.Grammar.{Form, Grammar, Rule, plain, within, both}
 use Rattle.leb128.specs.laws.Cases.{test, eq-or-ne, lt-or-le}
 use Rattle.leb128.specs.laws.EachNumber.{Each, first, each-more, within-limits}
 use Rattle.leb128.specs.laws.EachNumber.Each.{end}
+use Rattle.leb128.specs.laws.RefusalsGiven.{Gives, within-gives}
 use Rattle.sheet.specs.Refusals.{separations-crossed, NumberRefusal}
 use Rattle.sheet.specs.Refusals.NumberRefusal.{outside, apart}
 use Rattle.sheet.specs.Limits.{max-width, max-kind, max-layers, max-layer-nodes, max-nodes, max-separation, max-edges, max-numbers}
@@ -24,16 +25,7 @@ use Rattle.sheet.specs.Grammar.{crossed, maximum-rule, separation, separ
 pub record SheetNumber (form : Form) (rule : Rule) : Type 0 where
   pub is-plain : form ≡ plain
   pub small : (n : ℕ) → rule n ≡ 0 → (n < number-limit) × (n < list-limit)
-  pub gives : (n : ℕ) → (rule n ≡ 0) ⊎ NumberRefusal (rule n)
-
--- limits give refusal 4
-within-gives : (low high n : ℕ) → (within low high n ≡ 0) ⊎ NumberRefusal (within low high n)
-unfolding within
-within-gives low high n =
-    ⊎-elim
-    (λ (t : (leb low n && leb n high) ≡ true). inl (rw t))
-    (λ (t : (leb low n && leb n high) ≡ false). inr (rw t outside))
-    (test (leb low n && leb n high))
+  pub gives : Gives NumberRefusal form rule
 
 -- a number within limits
 limited : (low high : ℕ) → high ≤ max-separation → SheetNumber plain (within low high)
@@ -41,7 +33,7 @@ limited low high h =
     record {
       is-plain = refl;
       small = λ n ok. (omega (arith, within-limits low high n ok), omega (arith, within-limits low high n ok));
-      gives = within-gives low high;
+      gives = within-gives NumberRefusal outside plain low high;
     }
 
 -- a maximum separation
@@ -68,7 +60,7 @@ unfolding both
 both-gives least n =
     ⊎-elim
     (λ (z : within 0 max-separation n ≡ 0). rw (eq-eqb (within 0 max-separation n) 0 z) (crossed-gives least n))
-    (λ (z : within 0 max-separation n ≡ 0 → ⊥). rw (ne-eqb (within 0 max-separation n) 0 z) (within-gives 0 max-separation n))
+    (λ (z : within 0 max-separation n ≡ 0 → ⊥). rw (ne-eqb (within 0 max-separation n) 0 z) (within-gives NumberRefusal outside plain 0 max-separation n))
     (eq-or-ne (within 0 max-separation n) 0)
 
 -- a maximum separation is small

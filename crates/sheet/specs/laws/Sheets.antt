@@ -99,9 +99,10 @@ number-rules P f =
 
 -- the writer gives refusals 1, 4, 5, 6 and 7 only
 pub writer-refusals : (numbers : List ℕ) (room : ℕ) (r : Refusal)
-    → answered room (write-sheet numbers) ≡ Outcome.refused r → WriterRefusal (r .number)
+    → answered room (write-sheet numbers) ≡ Outcome.refused r → WriterRefusal NumberRefusal (r .number)
 unfolding write-sheet
-writer-refusals = writer-gives WriterRefusal ended follows short (number-rules WriterRefusal (λ n r. number r)) magic
+writer-refusals =
+    writer-gives (WriterRefusal NumberRefusal) ended follows short (number-rules (WriterRefusal NumberRefusal) (λ n r. number r)) magic
 
 -- those of a number are 4 and 5
 number-given : {n : ℕ} → NumberRefusal n → NumberTo something-follows n
@@ -109,7 +110,7 @@ number-given outside = (omega arith, omega arith)
 number-given apart = (omega arith, omega arith)
 
 -- the writer's are from 1 to 7
-pub writer-given : {n : ℕ} → WriterRefusal n → NumberTo slice-short n
+pub writer-given : {n : ℕ} → WriterRefusal NumberRefusal n → NumberTo slice-short n
 writer-given ended = (omega arith, omega arith)
 writer-given (number r) = let g = number-given r in (g .0, omega (arith, g .1))
 writer-given follows = (omega arith, omega arith)
