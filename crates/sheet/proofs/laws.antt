@@ -8,5 +8,6 @@ pub mod Settling
 pub mod SecondPass
 pub mod FillingNumbers
 pub mod Putting
+pub mod PlainNumbers
 pub mod Examples
 pub mod Locating

@@ -4,6 +4,10 @@ use mathlib.Core.List.{List, [], _∷_}
 use lib.ListN.{length}
 use Rattle.leb128.specs.Limits.{number-bytes}
 
+-- the bytes of a magic
+abbrev pub magic-bytes : ℕ
+magic-bytes = 3
+
 -- the bytes that a sheet starts with: S, P, 1
 abbrev pub magic : List ℕ
 magic = 0x53 ∷ 0x50 ∷ 0x31 ∷ []

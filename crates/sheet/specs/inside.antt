@@ -1,2 +1,2 @@
 pub mod Cursor
-pub mod Passes
+pub mod Formats

@@ -1,8 +1,9 @@
 // Reader and writer of sheets: one pass walks the grammar and writes nothing, a second one fills the lent slice.
+mod formats;
 pub mod layout;
 pub mod limits;
 mod nodes;
-mod reader;
+mod plain;
 pub mod refusals;
 mod source;
 mod start;
@@ -19,6 +20,7 @@ ghost use lib.ListN.{length};
 ghost use Rattle.leb128.specs.Source.{refusal};
 ghost use Rattle.leb128.specs.Format.{outcome, answered, filled};
 ghost use Rattle.sheet.specs.Reading.{«read-sheet», «write-sheet»};
+ghost use Rattle.sheet.specs.inside.Formats.{«read-format», «write-format»};
 ghost use Rattle.sheet.specs.inside.Cursor.{walked, ended, settled};
 
 // Reads a sheet's bytes into the front of the lent slice.
@@ -26,12 +28,7 @@ pub fn read(bytes: &[u8], numbers: &mut [u16]) -> Answer
     ensures answer { λ r. ⌜ outcome r ≡ answered (length (now (numbers .entry))) (read-sheet (now (bytes .entry))) ⌝ }
     ensures slice { λ r. ⌜ now (numbers .exit) ≡ filled (read-sheet (now (bytes .entry))) (now (numbers .entry)) ⌝ }
 {
-    let answer = settle(start::walk_bytes(bytes), bytes.len(), numbers.len());
-    let Answer::Done(count) = answer else {
-        return answer;
-    };
-    reader::fill(bytes, numbers, count);
-    answer
+    read_format(Format::Sheet, bytes, numbers)
 }
 
 // Writes the sheet of a number list into the front of the lent slice.
@@ -39,18 +36,18 @@ pub fn write(numbers: &[u16], bytes: &mut [u8]) -> Answer
     ensures answer { λ r. ⌜ outcome r ≡ answered (length (now (bytes .entry))) (write-sheet (now (numbers .entry))) ⌝ }
     ensures slice { λ r. ⌜ now (bytes .exit) ≡ filled (write-sheet (now (numbers .entry))) (now (bytes .entry)) ⌝ }
 {
-    let answer = settle(start::walk_list(numbers), numbers.len(), bytes.len());
-    let Answer::Done(_) = answer else {
-        return answer;
-    };
-    writer::put_sheet(numbers, bytes);
-    answer
+    write_format(Format::Sheet, numbers, bytes)
 }
 
 // Where a node stands: its layer and its position there, from 1; or there is no such node.
 pub enum Location {
     Node(usize, usize),
     Nowhere,
+}
+
+// What is read or written.
+enum Format {
+    Sheet,
 }
 
 // Where the next number stands: in the bytes (encoded) or in the number list, at a position; the numbers before it take
@@ -61,10 +58,48 @@ struct Cursor {
     count: usize,
 }
 
+// What a number may be: from low to high. Bytes hold what it lies above the base.
+struct Range {
+    base: u32,
+    low: u32,
+    high: u32,
+}
+
 // What stands at a cursor: a value with the next cursor, or the refusal.
 enum Step {
     Value(u32, Cursor),
     Refused(Refusal),
+}
+
+// Reads the bytes of a format into the front of the lent slice.
+fn read_format(format: Format, bytes: &[u8], numbers: &mut [u16]) -> Answer
+    ensures answer { λ r. ⌜ outcome r ≡ answered (length (now (numbers .entry))) (read-format format (now (bytes .entry))) ⌝ }
+    ensures slice { λ r. ⌜ now (numbers .exit) ≡ filled (read-format format (now (bytes .entry))) (now (numbers .entry)) ⌝ }
+{
+    let answer = settle(start::walk_bytes(format, bytes), bytes.len(), numbers.len());
+    let Answer::Done(count) = answer else {
+        return answer;
+    };
+    formats::fill(format, bytes, numbers, count);
+    answer
+}
+
+// Writes a number list in a format into the front of the lent slice.
+fn write_format(format: Format, numbers: &[u16], bytes: &mut [u8]) -> Answer
+    ensures answer { λ r. ⌜ outcome r ≡ answered (length (now (bytes .entry))) (write-format format (now (numbers .entry))) ⌝ }
+    ensures slice { λ r. ⌜ now (bytes .exit) ≡ filled (write-format format (now (numbers .entry))) (now (bytes .entry)) ⌝ }
+{
+    let answer = settle(
+        start::walk_list(format, numbers),
+        numbers.len(),
+        bytes.len(),
+    );
+    let Answer::Done(_) = answer else {
+        return answer;
+    };
+    writer::put_magic(bytes, formats::magic(format));
+    formats::put_numbers(format, numbers, bytes);
+    answer
 }
 
 // The refusal of this number at this offset.

@@ -1,5 +1,8 @@
 // The limits of a sheet.
 
+// The bytes of a magic.
+pub const MAGIC_BYTES: usize = 3;
+
 // The strip width W.
 pub const MAX_WIDTH: u32 = 4095;
 

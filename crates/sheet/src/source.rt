@@ -1,5 +1,6 @@
-// The number at a cursor, and the counting of it.
+// The number at a cursor, tested against its range and counted.
 use crate::Cursor;
+use crate::Range;
 use crate::Step;
 use leb128::Found;
 use leb128::Refusal;
@@ -8,10 +9,11 @@ use leb128::number_size;
 use leb128::read_number;
 use leb128::refusals::OUTSIDE_LIMITS;
 ghost use mathlib.Core.Path.{_≡_};
-ghost use mathlib.Core.Bool.{true, false};
-ghost use Rattle.leb128.specs.Source.{refusal, «in-bytes», «in-list»};
-ghost use Rattle.leb128.specs.Grammar.{plain};
-ghost use Rattle.sheet.specs.inside.Cursor.{source, «step-of», counted, Counted, Limited};
+ghost use Prim.Native.Nat.{_<_};
+ghost use Rattle.leb128.specs.Limits.{«list-limit»};
+ghost use Rattle.leb128.specs.Grammar.{Form};
+ghost use Rattle.leb128.specs.Source.{item, refusal, «in-bytes»};
+ghost use Rattle.sheet.specs.inside.Cursor.{source, «excess-weight», Counted, Sound, Ranged, Limited};
 
 // The refusal of this number at this offset.
 pub fn refuse(number: u8, offset: usize) -> Step
@@ -20,70 +22,69 @@ pub fn refuse(number: u8, offset: usize) -> Step
     Step::Refused(Refusal { number, offset })
 }
 
-// The number at a position of the bytes, behind count numbers.
-fn coded(bytes: &[u8], at: usize, count: usize) -> Step
-    requires { ⌜ counted true at count ⌝ }
-    ensures { λ r. ⌜ r ≡ step-of (record { encoded = true; at = at; count = count }) (in-bytes (now (bytes .entry)) plain at) ⌝ }
+// The number at a position of the bytes, which hold what it lies above a base.
+pub fn number_above(bytes: &[u8], at: usize, base: u32) -> Found
+    requires { ⌜ base < list-limit ⌝ }
+    ensures { λ r. ⌜ item r ≡ in-bytes (now (bytes .entry)) (Form.above base) at ⌝ }
 {
     let found = read_number(bytes, at);
     match found {
-        Found::Refused(r) => Step::Refused(r),
-        Found::Value(n, after) => Step::Value(
-            n,
-            Cursor {
-                encoded: true,
-                at: after,
-                count: count + 1,
-            },
-        ),
-    }
-}
-
-// The number at a position of the list, behind numbers that take count bytes.
-fn listed(numbers: &[u16], at: usize, count: usize) -> Step
-    requires { ⌜ counted false at count ⌝ }
-    ensures { λ r. ⌜ r ≡ step-of (record { encoded = false; at = at; count = count }) (in-list (now (numbers .entry)) plain at) ⌝ }
-{
-    let found = list_number(numbers, at);
-    match found {
-        Found::Refused(r) => Step::Refused(r),
-        Found::Value(n, after) => Step::Value(
-            n,
-            Cursor {
-                encoded: false,
-                at: after,
-                count: count + number_size(n),
-            },
-        ),
+        Found::Refused(r) => Found::Refused(r),
+        Found::Value(n, after) => Found::Value(base + n, after),
     }
 }
 
 // The number at a cursor, whichever source it reads.
-fn number(bytes: &[u8], numbers: &[u16], c: Cursor) -> Step
-    requires { ⌜ Counted c ⌝ }
-    ensures { λ r. ⌜ r ≡ step-of c (source (c .encoded) (now (bytes .entry)) (now (numbers .entry)) plain (c .at)) ⌝ }
+fn number(bytes: &[u8], numbers: &[u16], c: Cursor, base: u32) -> Found
+    requires { ⌜ base < list-limit ⌝ }
+    ensures { λ r. ⌜ item r ≡ source (c .encoded) (now (bytes .entry)) (now (numbers .entry)) (Form.above base) (c .at) ⌝ }
 {
     if c.encoded {
-        coded(bytes, c.at, c.count)
+        number_above(bytes, c.at, base)
     } else {
-        listed(numbers, c.at, c.count)
+        list_number(numbers, c.at)
     }
 }
 
-// The number at a cursor, tested against its limits.
+// How many elements a number takes where it is written, by what it lies above its base: one of a list, or its bytes.
+fn weight(encoded: bool, excess: u32) -> usize
+    ensures { λ r. ⌜ r ≡ excess-weight encoded excess ⌝ }
+{
+    if encoded { 1 } else { number_size(excess) }
+}
+
+// The number at a cursor, tested against its range.
+pub fn ranged(bytes: &[u8], numbers: &[u16], c: Cursor, range: Range) -> Step
+    requires { ⌜ Counted c ⌝ }
+    requires { ⌜ Sound range ⌝ }
+    ensures { λ r. ⌜ Ranged (now (bytes .entry)) (now (numbers .entry)) c range r ⌝ }
+{
+    let found = number(bytes, numbers, c, range.base);
+    match found {
+        Found::Refused(r) => Step::Refused(r),
+        Found::Value(n, after) => {
+            if n < range.low {
+                return refuse(OUTSIDE_LIMITS, c.at);
+            }
+            if range.high < n {
+                return refuse(OUTSIDE_LIMITS, c.at);
+            }
+            Step::Value(
+                n,
+                Cursor {
+                    encoded: c.encoded,
+                    at: after,
+                    count: c.count + weight(c.encoded, n - range.base),
+                },
+            )
+        }
+    }
+}
+
+// The plain number at a cursor, tested against its limits.
 pub fn limited(bytes: &[u8], numbers: &[u16], c: Cursor, low: u32, high: u32) -> Step
     requires { ⌜ Counted c ⌝ }
     ensures { λ r. ⌜ Limited (now (bytes .entry)) (now (numbers .entry)) c low high r ⌝ }
 {
-    let step = number(bytes, numbers, c);
-    let Step::Value(n, _) = step else {
-        return step;
-    };
-    if n < low {
-        return refuse(OUTSIDE_LIMITS, c.at);
-    }
-    if high < n {
-        return refuse(OUTSIDE_LIMITS, c.at);
-    }
-    step
+    ranged(bytes, numbers, c, Range { base: 0, low, high })
 }

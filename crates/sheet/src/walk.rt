@@ -73,7 +73,8 @@ fn edge(bytes: &[u8], numbers: &[u16], c: Cursor, counts: &[u32], layers: u32) -
 fn edges(bytes: &[u8], numbers: &[u16], start: Cursor, counts: &[u32], layers: u32, n: u32) -> Step
     requires { ⌜ Counted start ⌝ }
     requires { ⌜ (1 ≤ layers) × (layers ≤ length (now counts)) ⌝ }
-    ensures { λ r. ⌜ walked r ≡ walk-from (now (bytes .entry)) (now (numbers .entry)) start (grammar.edges n (take layers (now (counts .entry)))) ⌝ }
+    ensures { λ r. ⌜ walked r ≡ walk-from (now (bytes .entry)) (now (numbers .entry)) start
+        (grammar.edges n (take layers (now (counts .entry)))) ⌝ }
 {
     let mut c = start;
     let mut i: u32 = 0;

@@ -1,7 +1,7 @@
 -- What holds of coordinate files, by the laws of any format at their magic and grammar: one to one, the bounds, the first
 -- bytes, the offsets and the refusals of writer and reader; and no bytes are both a sheet and a coordinate file.
 use Prim.Native.Nat.{ℕ, zero, suc, _+_, _-_, _≤_, min}
-use mathlib.Core.Path.{_≡_, refl, sym, _∙_, ap}
+use mathlib.Core.Path.{_≡_, refl}
 use mathlib.Core.Bool.{false}
 use mathlib.Core.Logic.{inl, inr, ⊎-elim}
 use mathlib.Core.List.{List, _++_}
@@ -9,7 +9,7 @@ use native.Mathlib.Omega.{arith}
 use lib.ListN.{length, take}
 use borrow.Author.Tests.{le-ltb}
 use Rattle.leb128.specs.Refusals.{other-magic}
-use Rattle.leb128.specs.Grammar.{Form, Grammar, Rule, plain, within, Accepts}
+use Rattle.leb128.specs.Grammar.{Form, Grammar, Rule, within, Accepts}
 use Rattle.leb128.specs.Source.{Source, refusal}
 use Rattle.leb128.specs.Walk.{asked}
 use Rattle.leb128.specs.Format.{Result, Outcome, encoded, same, walk-bytes, complete, made, reading, answered}

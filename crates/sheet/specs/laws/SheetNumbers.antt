@@ -60,7 +60,8 @@ unfolding both
 both-gives least n =
     ⊎-elim
     (λ (z : within 0 max-separation n ≡ 0). rw (eq-eqb (within 0 max-separation n) 0 z) (crossed-gives least n))
-    (λ (z : within 0 max-separation n ≡ 0 → ⊥). rw (ne-eqb (within 0 max-separation n) 0 z) (within-gives NumberRefusal outside plain 0 max-separation n))
+    (λ (z : within 0 max-separation n ≡ 0 → ⊥). rw (ne-eqb (within 0 max-separation n) 0 z)
+    (within-gives NumberRefusal outside plain 0 max-separation n))
     (eq-or-ne (within 0 max-separation n) 0)
 
 -- a maximum separation is small

@@ -1,41 +1,34 @@
 -- `sheet::source::number` meets its contract: the flag says which source is read.
+use Rattle.leb128.specs.Grammar.Form.{above}
+use Rattle.leb128.specs.Source.{in-list}
+use Rattle.sheet.specs.inside.Cursor.{source}
 use denote.Ref.{now}
-use Rattle.sheet.specs.inside.Cursor.{source, step-of, counted}
-use Rattle.leb128.specs.Grammar.{plain}
 use mathlib.Core.Bool.{Bool}
-use mathlib.Core.Path.{sym, _∙_, ap, subst}
+use mathlib.Core.Path.{sym, _∙_, ap}
+use borrow.Author.Needs.{needs}
 use Rattle.sheet.proofs.source.number.Statement.{statement}
 use Rattle.sheet.proofs.source.number.Tie as tie
 
-coded-requires : tie.Need-coded-requires
-coded-requires c κs =
-    let start = c .before .before .before in
-    subst (λ (e : Bool). counted e (start .args .c .at) (start .args .c .count)) (c .if1 .taken) (start .pre)
+number-above-requires : tie.Need-number-above-requires
+number-above-requires c κs = search needs
 
-listed-requires : tie.Need-listed-requires
-listed-requires c κs =
-    let start = c .before .before .before in
-    subst (λ (e : Bool). counted e (start .args .c .at) (start .args .c .count)) (c .if1 .left) (start .pre)
+list-number-requires : tie.Need-list-number-requires
+list-number-requires c κs = search needs
 
 returns : tie.Need-returns
 returns c =
     let start = c .before .before .before .before in
-    let a = start .args in
-    c .coded .ensures
-    ∙ ap
-    (λ (e : Bool). step-of (record { encoded = e; at = a .c .at; count = a .c .count })
-    (source e (now (a .bytes)) (now (a .numbers)) plain (a .c .at)))
-    (sym (c .before .if1 .taken))
+    c .number-above .ensures ∙ ap
+    (λ (e : Bool). source e (now (start .args .bytes)) (now (start .args .numbers)) (above (start .args .base))
+    (start .args .c .at)) (sym (c .before .if1 .taken))
 
 returns-2 : tie.Need-returns-2
+unfolding in-list
 returns-2 c =
     let start = c .before .before .before .before in
-    let a = start .args in
-    c .listed .ensures
-    ∙ ap
-    (λ (e : Bool). step-of (record { encoded = e; at = a .c .at; count = a .c .count })
-    (source e (now (a .bytes)) (now (a .numbers)) plain (a .c .at)))
-    (sym (c .before .if1 .left))
+    c .list-number .ensures ∙ ap
+    (λ (e : Bool). source e (now (start .args .bytes)) (now (start .args .numbers)) (above (start .args .base))
+    (start .args .c .at)) (sym (c .before .if1 .left))
 
 pub number-spec : {M : Type 1} → statement M
-number-spec = tie.close (tie.spec coded-requires listed-requires returns returns-2)
+number-spec = tie.close (tie.spec number-above-requires list-number-requires returns returns-2)

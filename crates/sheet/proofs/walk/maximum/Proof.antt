@@ -26,7 +26,7 @@ returns c =
     let start = c .before .before .before .before .before in
     let a = start .args in
     maximum-by (start .pre)
-    (test-refused (a .c)
+    (test-refused (a .c) plain
     (checked (within 0 max-separation) (a .c .at)
     (source (a .c .encoded) (now (a .bytes)) (now (a .numbers)) plain (a .c .at)))
     (crossed (a .least)) _ (c .before .before .limited .ensures .is) (c .enum-told .given .1))
@@ -38,7 +38,7 @@ returns-2 c =
     let step = c .before .before .step in
     let a = start .args in
     maximum-by (start .pre)
-    (test-good (a .c)
+    (test-good (a .c) plain
     (checked (within 0 max-separation) (a .c .at)
     (source (a .c .encoded) (now (a .bytes)) (now (a .numbers)) plain (a .c .at)))
     (crossed (a .least)) _ (limited .ensures .is) (step .given .1)
@@ -54,7 +54,7 @@ returns-3 c =
     let step = c .before .before .before .before .step in
     let a = start .args in
     maximum-by (start .pre)
-    (test-broken (a .c)
+    (test-broken (a .c) plain
     (checked (within 0 max-separation) (a .c .at)
     (source (a .c .encoded) (now (a .bytes)) (now (a .numbers)) plain (a .c .at)))
     (crossed (a .least)) _ (limited .ensures .is) (step .given .1) _
@@ -67,7 +67,7 @@ returns-4 c =
     let step = c .before .before .before .step in
     let a = start .args in
     maximum-by (start .pre)
-    (test-good (a .c)
+    (test-good (a .c) plain
     (checked (within 0 max-separation) (a .c .at)
     (source (a .c .encoded) (now (a .bytes)) (now (a .numbers)) plain (a .c .at)))
     (crossed (a .least)) _ (limited .ensures .is) (step .given .1)

@@ -1,19 +1,20 @@
--- `sheet::reader::fill` meets its contract: the loop's invariant is `FillLeft`.
-use native.Mathlib.Omega.{arith}
-use Rattle.sheet.proofs.laws.FillingNumbers.{FillLeft, fill-begin, fill-next, fill-never, fill-end}
+-- `sheet::plain::fill` meets its contract: the loop's invariant is `PlainFill`.
 use Prim.Native.Nat.{_-_}
+use Rattle.sheet.proofs.laws.FillingNumbers.{fill-end}
+use Rattle.sheet.proofs.laws.PlainNumbers.{PlainFill, plain-begin, plain-next, plain-never}
+use native.Mathlib.Omega.{arith}
 use borrow.Author.Needs.{needs}
-use Rattle.sheet.proofs.reader.fill.Statement.{statement}
-use Rattle.sheet.proofs.reader.fill.Tie as tie
+use Rattle.sheet.proofs.plain.fill.Statement.{statement}
+use Rattle.sheet.proofs.plain.fill.Tie as tie
 
 abbrev Inv-loop : tie.InvT-loop
-Inv-loop bytes numbers₀ count at₀ i₀ numbers at i = FillLeft bytes count numbers₀ numbers at i
+Inv-loop bytes numbers₀ count at₀ i₀ numbers at i = PlainFill bytes count numbers₀ numbers at i
 
 abbrev μ-loop : tie.MeasureT-loop
 μ-loop bytes numbers₀ count at₀ i₀ numbers at i = count - i
 
 loop-holds : tie.Need-loop-holds Inv-loop μ-loop
-loop-holds c = fill-begin _ (c .before .before .pre .0)
+loop-holds c = plain-begin _ (c .before .before .pre .0)
 
 read-number-requires : tie.Need-read-number-requires Inv-loop μ-loop
 read-number-requires c κs = search needs
@@ -25,13 +26,15 @@ enum-told : tie.Need-enum-told Inv-loop μ-loop
 enum-told c = search needs
 
 same-length : tie.Need-same-length Inv-loop μ-loop
-same-length c = c .before .before .before .before .loop .inv .left .size
+same-length c =
+    let loop = c .before .before .before .before .loop in
+    loop .inv .left .left .size
 
 returns : tie.Need-returns Inv-loop μ-loop
 returns c =
     let loop = c .before .before .before .before .loop in
     let read-number = c .before .before .read-number in
-    absurd (fill-never (loop .inv) (read-number .result) (omega arith) (read-number .ensures) (c .enum-told .given .1))
+    absurd (plain-never (loop .inv) (read-number .result) (omega arith) (read-number .ensures) (c .enum-told .given .1))
 
 cast-numbers : tie.Need-cast-numbers Inv-loop μ-loop
 cast-numbers c =
@@ -39,7 +42,8 @@ cast-numbers c =
     let read-number = c .before .before .before .read-number in
     omega (
       arith,
-      fill-next (loop .inv) (read-number .result) (omega arith) (read-number .ensures) (c .before .found .given .1) .small,
+      plain-next (loop .inv) (read-number .result) (omega arith) (read-number .ensures)
+          (c .before .found .given .1) .0,
     )
 
 mul-numbers : tie.Need-mul-numbers Inv-loop μ-loop
@@ -49,7 +53,7 @@ slice-write-numbers : tie.Need-slice-write-numbers Inv-loop μ-loop
 slice-write-numbers c =
     let start = c .before .before .before .before .before .before .before .before in
     let loop = c .before .before .before .before .before .loop in
-    omega (arith, loop .inv .left .size, start .pre .1)
+    omega (arith, loop .inv .left .left .size, start .pre .1)
 
 add-i : tie.Need-add-i Inv-loop μ-loop
 add-i c = omega arith
@@ -61,13 +65,15 @@ loop-again : tie.Need-loop-again Inv-loop μ-loop
 loop-again c =
     let loop = c .before .before .before .before .before .loop in
     let read-number = c .before .before .before .read-number in
-    fill-next (loop .inv) (read-number .result) (omega arith) (read-number .ensures) (c .before .found .given .1) .again
+    plain-next (loop .inv) (read-number .result) (omega arith) (read-number .ensures) (c .before .found .given .1) .1
 
 same-length-2 : tie.Need-same-length-2 Inv-loop μ-loop
-same-length-2 c = c .before .loop .inv .left .size
+same-length-2 c = c .before .loop .inv .left .left .size
 
 returns-2 : tie.Need-returns-2 Inv-loop μ-loop
-returns-2 c = fill-end (c .before .loop .inv) (omega arith) (c .before .before .before .before .pre .1)
+returns-2 c =
+    let start = c .before .before .before .before in
+    fill-end (c .before .loop .inv .left) (omega arith) (start .pre .1)
 
 pub fill-spec : {M : Type 1} → statement M
 fill-spec =

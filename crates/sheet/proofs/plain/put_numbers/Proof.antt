@@ -1,21 +1,21 @@
--- `sheet::writer::put_numbers` meets its contract: the loop's invariant is `PutLeft`.
+-- `sheet::plain::put_numbers` meets its contract: the loop's invariant is `PlainPut`.
 use Prim.Native.Nat.{_-_}
+use Rattle.sheet.proofs.laws.PlainNumbers.{PlainPut, plain-start, plain-form, plain-room, plain-put}
+use Rattle.sheet.proofs.laws.Putting.{put-end}
+use lib.ListN.{length}
 use native.Mathlib.Omega.{arith}
 use borrow.Author.Needs.{needs}
-use lib.ListN.{length}
-use Rattle.leb128.specs.laws.Storing.{left-begin}
-use Rattle.sheet.proofs.laws.Putting.{PutLeft, put-room, put-next, put-end}
-use Rattle.sheet.proofs.writer.put_numbers.Statement.{statement}
-use Rattle.sheet.proofs.writer.put_numbers.Tie as tie
+use Rattle.sheet.proofs.plain.put_numbers.Statement.{statement}
+use Rattle.sheet.proofs.plain.put_numbers.Tie as tie
 
 abbrev Inv-loop : tie.InvT-loop
-Inv-loop numbers bytes₀ at₀ i₀ bytes at i = PutLeft numbers bytes₀ bytes at i
+Inv-loop numbers bytes₀ at₀ i₀ bytes at i = PlainPut numbers bytes₀ bytes at i
 
 abbrev μ-loop : tie.MeasureT-loop
 μ-loop numbers bytes₀ at₀ i₀ bytes at i = length numbers - i
 
 loop-holds : tie.Need-loop-holds Inv-loop μ-loop
-loop-holds c = record { left = left-begin _ _ _ }
+loop-holds c = plain-start _ (c .before .before .pre .0)
 
 mul-put : tie.Need-mul-put Inv-loop μ-loop
 mul-put c = search needs
@@ -24,13 +24,15 @@ shared-slice-read-put : tie.Need-shared-slice-read-put Inv-loop μ-loop
 shared-slice-read-put c = omega arith
 
 cast-put : tie.Need-cast-put Inv-loop μ-loop
-cast-put c = omega (arith, c .shared-slice-known2 .given (c .before .before .before .loop .i))
+cast-put c =
+    let loop = c .before .before .before .loop in
+    omega (arith, c .shared-slice-known2 .given (loop .i))
 
 put-requires : tie.Need-put-requires Inv-loop μ-loop
 put-requires c κs =
     let start = c .before .before .before .before .before .before in
     let loop = c .before .before .before .loop in
-    (start .pre .0 (loop .i), put-room (loop .inv) (omega arith) (start .pre .1))
+    (plain-form (loop .inv) (omega arith), plain-room (loop .inv) (omega arith) (start .pre .1))
 
 add-i : tie.Need-add-i Inv-loop μ-loop
 add-i c = omega arith
@@ -41,13 +43,13 @@ loop-less c = omega arith
 loop-again : tie.Need-loop-again Inv-loop μ-loop
 loop-again c =
     let loop = c .before .before .before .before .before .before .loop in
-    put-next (loop .inv) (omega arith) (c .before .before .put .ensures)
+    plain-put (loop .inv) (omega arith) (c .before .before .put .ensures)
 
 same-length : tie.Need-same-length Inv-loop μ-loop
-same-length c = c .before .loop .inv .left .size
+same-length c = c .before .loop .inv .left .left .size
 
 returns : tie.Need-returns Inv-loop μ-loop
-returns c = put-end (c .before .loop .inv) (omega arith)
+returns c = put-end (c .before .loop .inv .left) (omega arith)
 
 pub put-numbers-spec : {M : Type 1} → statement M
 put-numbers-spec =
