@@ -9,5 +9,8 @@ pub mod SecondPass
 pub mod FillingNumbers
 pub mod Putting
 pub mod PlainNumbers
+pub mod Awaited
+pub mod CoordinatePasses
 pub mod Examples
+pub mod CoordinateExamples
 pub mod Locating

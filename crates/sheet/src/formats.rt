@@ -2,6 +2,7 @@
 use crate::Cursor;
 use crate::Format;
 use crate::Step;
+use crate::coordinates;
 use crate::limits::MAGIC_BYTES;
 use crate::plain;
 use crate::walk;
@@ -19,12 +20,16 @@ ghost use Rattle.sheet.specs.inside.Formats.{«magic-of», «grammar-of�
 // The bytes that a sheet starts with.
 const SHEET: [u8; MAGIC_BYTES] = *b"SP1";
 
+// The bytes that a coordinate file starts with.
+const COORDINATES: [u8; MAGIC_BYTES] = *b"SD1";
+
 // The bytes that a format starts with.
 pub fn magic(format: Format) -> [u8; MAGIC_BYTES]
     ensures { λ r. ⌜ r ≡ magic-of format ⌝ }
 {
     match format {
         Format::Sheet => SHEET,
+        Format::Coordinates => COORDINATES,
     }
 }
 
@@ -35,6 +40,7 @@ pub fn walk(format: Format, bytes: &[u8], numbers: &[u16], start: Cursor) -> Ste
 {
     match format {
         Format::Sheet => walk::walk(bytes, numbers, start),
+        Format::Coordinates => coordinates::walk(bytes, numbers, start),
     }
 }
 
@@ -46,6 +52,7 @@ pub fn fill(format: Format, bytes: &[u8], numbers: &mut [u16], count: usize)
 {
     match format {
         Format::Sheet => plain::fill(bytes, numbers, count),
+        Format::Coordinates => coordinates::fill(bytes, numbers, count),
     }
 }
 
@@ -57,5 +64,6 @@ pub fn put_numbers(format: Format, numbers: &[u16], bytes: &mut [u8])
 {
     match format {
         Format::Sheet => plain::put_numbers(numbers, bytes),
+        Format::Coordinates => coordinates::put_numbers(numbers, bytes),
     }
 }

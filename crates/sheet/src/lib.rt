@@ -1,8 +1,11 @@
-// Reader and writer of sheets: one pass walks the grammar and writes nothing, a second one fills the lent slice.
+// Reader and writer of sheets and of coordinate files: one pass walks the grammar and writes nothing, a second one fills the
+// lent slice.
+mod coordinates;
 mod formats;
 pub mod layout;
 pub mod limits;
 mod nodes;
+mod order;
 mod plain;
 pub mod refusals;
 mod source;
@@ -19,7 +22,7 @@ ghost use mathlib.Core.Path.{_≡_};
 ghost use lib.ListN.{length};
 ghost use Rattle.leb128.specs.Source.{refusal};
 ghost use Rattle.leb128.specs.Format.{outcome, answered, filled};
-ghost use Rattle.sheet.specs.Reading.{«read-sheet», «write-sheet»};
+ghost use Rattle.sheet.specs.Reading.{«read-sheet», «write-sheet», «read-coordinates», «write-coordinates»};
 ghost use Rattle.sheet.specs.inside.Formats.{«read-format», «write-format»};
 ghost use Rattle.sheet.specs.inside.Cursor.{walked, ended, settled};
 
@@ -39,6 +42,22 @@ pub fn write(numbers: &[u16], bytes: &mut [u8]) -> Answer
     write_format(Format::Sheet, numbers, bytes)
 }
 
+// Reads a coordinate file's bytes into the front of the lent slice.
+pub fn read_coordinates(bytes: &[u8], numbers: &mut [u16]) -> Answer
+    ensures answer { λ r. ⌜ outcome r ≡ answered (length (now (numbers .entry))) (read-coordinates (now (bytes .entry))) ⌝ }
+    ensures slice { λ r. ⌜ now (numbers .exit) ≡ filled (read-coordinates (now (bytes .entry))) (now (numbers .entry)) ⌝ }
+{
+    read_format(Format::Coordinates, bytes, numbers)
+}
+
+// Writes the coordinate file of a number list into the front of the lent slice.
+pub fn write_coordinates(numbers: &[u16], bytes: &mut [u8]) -> Answer
+    ensures answer { λ r. ⌜ outcome r ≡ answered (length (now (bytes .entry))) (write-coordinates (now (numbers .entry))) ⌝ }
+    ensures slice { λ r. ⌜ now (bytes .exit) ≡ filled (write-coordinates (now (numbers .entry))) (now (bytes .entry)) ⌝ }
+{
+    write_format(Format::Coordinates, numbers, bytes)
+}
+
 // Where a node stands: its layer and its position there, from 1; or there is no such node.
 pub enum Location {
     Node(usize, usize),
@@ -48,6 +67,7 @@ pub enum Location {
 // What is read or written.
 enum Format {
     Sheet,
+    Coordinates,
 }
 
 // Where the next number stands: in the bytes (encoded) or in the number list, at a position; the numbers before it take
@@ -63,6 +83,18 @@ struct Range {
     base: u32,
     low: u32,
     high: u32,
+}
+
+// How far a coordinate file is read: whether its layers are counted, and if they are, how many are to come, how many nodes of
+// this layer are to come, how many nodes may yet be counted; the next node stands at low or right of it, and its bytes hold
+// what it lies above the base.
+struct Awaited {
+    begun: bool,
+    layers: u32,
+    nodes: u32,
+    room: u32,
+    base: u32,
+    low: u32,
 }
 
 // What stands at a cursor: a value with the next cursor, or the refusal.

@@ -1,4 +1,4 @@
-// The limits of a sheet.
+// The limits of a sheet and of a coordinate file.
 
 // The bytes of a magic.
 pub const MAGIC_BYTES: usize = 3;
@@ -29,3 +29,6 @@ pub const MAX_NUMBERS: usize = 2559;
 
 // The bytes of a sheet.
 pub const MAX_BYTES: usize = 5121;
+
+// A coordinate in a coordinate file.
+pub const MAX_COORDINATE: u32 = 4095;

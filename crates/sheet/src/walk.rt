@@ -90,7 +90,7 @@ fn edges(bytes: &[u8], numbers: &[u16], start: Cursor, counts: &[u32], layers: u
 }
 
 // The smaller of two numbers.
-fn smaller(a: u32, b: u32) -> u32
+pub fn smaller(a: u32, b: u32) -> u32
     ensures { λ r. ⌜ r ≡ min a b ⌝ }
 {
     if a < b { a } else { b }

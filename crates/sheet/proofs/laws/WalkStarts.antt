@@ -15,7 +15,7 @@ use Rattle.sheet.specs.Limits.{magic-bytes}
 use Rattle.sheet.specs.inside.Cursor.{Measure, measured, walk-from}
 use Rattle.sheet.specs.inside.Formats.{magic-of, grammar-of, measured-bytes, measured-list}
 use Rattle.sheet.specs.declared.Format.{Format}
-use Rattle.sheet.specs.declared.Format.the-variants.{Sheet}
+use Rattle.sheet.specs.declared.Format.the-variants.{Sheet, Coordinates}
 
 -- a magic, byte by byte
 pub magic-compared : (bytes magic : List ℕ) → magic-bytes ≤ length bytes → length magic ≡ magic-bytes
@@ -40,13 +40,10 @@ magic-stored old (x ∷ y ∷ []) e = absurd (omega arith)
 magic-stored old (x ∷ []) e = absurd (omega arith)
 magic-stored old [] e = absurd (omega arith)
 
--- there is one format
-pub one-format : (format : Format) → format ≡ Sheet
-one-format Sheet = refl
-
 -- how long a format's magic is
 pub magic-size : (format : Format) → length (magic-of format) ≡ magic-bytes
 magic-size Sheet = refl
+magic-size Coordinates = refl
 
 module _ (format : Format) (bytes : List ℕ) where
   -- the magic is not whole

@@ -7,19 +7,22 @@ use lib.ListN.{length}
 use Rattle.leb128.specs.Grammar.{Grammar}
 use Rattle.leb128.specs.Format.{Result, walk-bytes, walk-list, reading, writing}
 use Rattle.leb128.specs.Format.Result.{elements}
-use Rattle.sheet.specs.Limits.{magic-bytes, magic}
+use Rattle.sheet.specs.Limits.{magic-bytes, magic, coordinate-magic}
 use Rattle.sheet.specs.Grammar.{sheet}
+use Rattle.sheet.specs.Coordinates.{coordinates}
 use Rattle.sheet.specs.inside.Cursor.{Measure, measured}
 use Rattle.sheet.specs.declared.Format.{Format}
-use Rattle.sheet.specs.declared.Format.the-variants.{Sheet}
+use Rattle.sheet.specs.declared.Format.the-variants.{Sheet, Coordinates}
 
 -- the bytes that a format starts with
 abbrev pub magic-of : Format → List ℕ
 magic-of Sheet = magic
+magic-of Coordinates = coordinate-magic
 
 -- the grammar of a format
 abbrev pub grammar-of : Format → Grammar
 grammar-of Sheet = sheet
+grammar-of Coordinates = coordinates
 
 -- where a walk along a format's bytes ends, and how many numbers it finds
 abbrev pub measured-bytes : Format → List ℕ → Measure
