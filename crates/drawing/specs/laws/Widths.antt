@@ -5,9 +5,9 @@ use mathlib.Core.Path.{_≡_, refl, sym, _∙_, ap}
 use mathlib.Core.List.{List, [], _∷_}
 use native.Mathlib.Omega.{arith}
 use lib.ListN.{drop}
-use borrow.Author.Tests.{le-leb}
-use Rattle.leb128.specs.Grammar.{Accepts, within}
+use Rattle.leb128.specs.Grammar.{Accepts}
 use Rattle.leb128.specs.Grammar.Accepts.{one}
+use Rattle.leb128.specs.laws.EachNumber.{within-inside}
 use Rattle.sheet.specs.Limits.{max-width}
 use Rattle.sheet.specs.Grammar.{sheet}
 use Rattle.drawing.specs.Sheet.{Sheet, sheet-of, at-width}
@@ -15,15 +15,10 @@ use Rattle.drawing.specs.Drawing.{coordinate, Drawing, NoDrawing}
 use Rattle.drawing.specs.Widths.{with-width, TotalAt}
 use Rattle.drawing.specs.laws.SameDrawings.{inside-at, at-inside}
 
--- a width within its limits is taken
-width-in : (width : ℕ) → width ≤ max-width → within 0 max-width width ≡ 0
-unfolding within
-width-in width h = rw (le-leb 0 width (omega arith), le-leb width max-width h) refl
-
 -- the numbers with another width are good
 pub width-accepts : (width : ℕ) {s : List ℕ} → width ≤ max-width → Accepts sheet s → Accepts sheet (with-width width s)
 unfolding sheet
-width-accepts width h (one ok rest) = one (width-in width h) rest
+width-accepts width h (one ok rest) = one (within-inside 0 max-width width zero-le h) rest
 
 -- and are those of the sheet at that width
 pub width-sheet : (width : ℕ) {s : List ℕ} → Accepts sheet s → sheet-of (with-width width s) ≡ at-width width (sheet-of s)

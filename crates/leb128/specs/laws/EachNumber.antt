@@ -65,3 +65,8 @@ within-limits low high n e =
     (λ (k : n ≤ high). (h, k))
     (lt-or-le high n))
     (lt-or-le n low)
+
+-- and the other way round
+pub within-inside : (low high n : ℕ) → low ≤ n → n ≤ high → within low high n ≡ 0
+unfolding within
+within-inside low high n p q = rw (le-leb low n p, le-leb n high q)
