@@ -2,6 +2,7 @@ pub mod Sheet
 pub mod Proper
 pub mod Drawing
 pub mod Widths
+pub mod CoordinateFile
 pub mod Certificate
 pub mod Judged
 pub mod Arcs

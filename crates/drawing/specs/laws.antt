@@ -16,6 +16,7 @@ pub mod LeastAssignment
 pub mod LeftmostTest
 pub mod Unique
 pub mod Widths
+pub mod CoordinateFile
 pub mod Rows
 pub mod Table
 pub mod Located

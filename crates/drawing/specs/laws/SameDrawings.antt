@@ -113,15 +113,13 @@ one-more p c v step rest u a b =
     (λ (ne : u ≡ v → ⊥). rest u (omega arith) (omega arith))
     (eq-or-ne u v))
 
--- a pair's right node is not left of its left one
-separated-le : (p : List ℕ) (x : Pair) → T (separated p x) → coordinate p (x .left) ≤ coordinate p (suc (x .left))
-separated-le p x t =
-    omega (
-      arith,
-      leb→le (coordinate p (x .left) + x .minimum) (coordinate p (suc (x .left)))
-          (and-left (leb (coordinate p (x .left) + x .minimum) (coordinate p (suc (x .left))))
-          (within-maximum (x .maximum) (coordinate p (x .left)) (coordinate p (suc (x .left)))) t),
-    )
+-- a pair's right node is the minimum separation or more right of its left one
+pub separated-least : (p : List ℕ) (x : Pair) → T (separated p x)
+    → coordinate p (x .left) + x .minimum ≤ coordinate p (suc (x .left))
+separated-least p x t =
+    leb→le (coordinate p (x .left) + x .minimum) (coordinate p (suc (x .left)))
+    (and-left (leb (coordinate p (x .left) + x .minimum) (coordinate p (suc (x .left))))
+    (within-maximum (x .maximum) (coordinate p (x .left)) (coordinate p (suc (x .left)))) t)
 
 -- no node of c pairs is right of the last one
 rightmost : (p : List ℕ) (c v : ℕ) (s : List ℕ) → T (all (separated p) (pairs-of c v s)) → (u : ℕ) → v ≤ u → u ≤ v + c
@@ -130,7 +128,7 @@ rightmost p zero v s t u a b = le-of-eq (ap (coordinate p) (omega arith))
 rightmost p (suc c) v s t u a b =
     let x : Pair = record { left = v; minimum = getD s minimum-at 0; maximum = getD s maximum-at 0 } in
     let xs : List Pair = pairs-of c (suc v) (drop separation-stride s) in
-    one-more p c v (separated-le p x (and-left (separated p x) (all (separated p) xs) t))
+    one-more p c v (omega (arith, separated-least p x (and-left (separated p x) (all (separated p) xs) t)))
     (rightmost p c (suc v) (drop separation-stride s) (and-right (separated p x) (all (separated p) xs) t)) u a b
 
 -- the nodes of a layer of c nodes that passes its test are within the width
