@@ -39,6 +39,29 @@ module _ (P : ℕ → Type 0) where
       (λ (t : (leb low n && leb n high) ≡ false). inr (rw t outside))
       (test (leb low n && leb n high))
 
+  -- what is made of a walk is refused where it is
+  made-refused : (f : List ℕ → List ℕ) (w : Walk) (r : Refusal) → (w ≡ refused r → P (r .number))
+      → made f w ≡ Result.refused r → P (r .number)
+  unfolding made
+  made-refused f (whole last ns) r h e = let z : _≡_ {A = ℕ} 0 1 = cc in absurd (omega arith)
+  made-refused f (refused t) r h e = let is-r : t ≡ r = cc in h (ap refused is-r)
+
+  -- what is answered for a result is refused where it is, or for a short slice
+  pub answer-refused : P slice-short → (room : ℕ) (result : Result) (r : Refusal) → (result ≡ Result.refused r → P (r .number))
+      → answered room result ≡ Outcome.refused r → P (r .number)
+  unfolding answered
+  answer-refused short room (Result.elements es) r h e =
+      ⊎-elim
+      (λ (k : room < length es).
+      let g : Outcome.refused (refusal slice-short 0) ≡ Outcome.refused r = rw (lt-ltb room (length es) k) at e in
+      let is-r : r ≡ refusal slice-short 0 = cc in
+      rw is-r short)
+      (λ (k : length es ≤ room).
+      let g : Outcome.wrote (length es) ≡ Outcome.refused r = rw (le-ltb room (length es) k) at e in
+      let z : _≡_ {A = ℕ} 0 1 = cc in absurd (omega arith))
+      (lt-or-le room (length es))
+  answer-refused short room (Result.refused t) r h e = let is-r : t ≡ r = cc in h (ap Result.refused is-r)
+
   -- a source gives refusals of P only
   abbrev Refuses : Source → Type 0
   Refuses source = (form : Form) (at : ℕ) (r : Refusal) → source form at ≡ Item.refused r → P (r .number)
@@ -148,13 +171,6 @@ module _ (P : ℕ → Type 0) where
         opened-refused false true n w r h e = h e
         opened-refused false false n w r h e = let is-r : r ≡ refusal other-magic 0 = cc in rw is-r other
 
-        -- what is made of a walk is refused where it is
-        made-refused : (f : List ℕ → List ℕ) (w : Walk) (r : Refusal) → (w ≡ refused r → P (r .number))
-            → made f w ≡ Result.refused r → P (r .number)
-        unfolding made
-        made-refused f (whole last ns) r h e = let z : _≡_ {A = ℕ} 0 1 = cc in absurd (omega arith)
-        made-refused f (refused t) r h e = let is-r : t ≡ r = cc in h (ap refused is-r)
-
         -- what the reader of a format refuses
         pub reader-gives : {m : ℕ} {grammar : Grammar} → Each Gives m grammar → (magic bytes : List ℕ) (r : Refusal)
             → reading magic grammar bytes ≡ Result.refused r → P (r .number)
@@ -167,28 +183,13 @@ module _ (P : ℕ → Type 0) where
             (walk-refused gives (in-bytes bytes) (byte-source form-broken bytes) (length magic) r))) e
 
       module _ (short : P slice-short) where
-        -- a short slice is refused
-        answer-refused : (room : ℕ) (f : List ℕ → List ℕ) (w : Walk) (r : Refusal) → (w ≡ refused r → P (r .number))
-            → answered room (made f w) ≡ Outcome.refused r → P (r .number)
-        unfolding answered made
-        answer-refused room f (whole last ns) r h e =
-            ⊎-elim
-            (λ (k : room < length (f ns)).
-            let g : Outcome.refused (refusal slice-short 0) ≡ Outcome.refused r = rw (lt-ltb room (length (f ns)) k) at e in
-            let is-r : r ≡ refusal slice-short 0 = cc in
-            rw is-r short)
-            (λ (k : length (f ns) ≤ room).
-            let g : Outcome.wrote (length (f ns)) ≡ Outcome.refused r = rw (le-ltb room (length (f ns)) k) at e in
-            let z : _≡_ {A = ℕ} 0 1 = cc in absurd (omega arith))
-            (lt-or-le room (length (f ns)))
-        answer-refused room f (refused t) r h e = let is-r : t ≡ r = cc in h (ap refused is-r)
-
         -- what the writer of a format refuses
         pub writer-gives : {m : ℕ} {grammar : Grammar} → Each Gives m grammar
             → (magic numbers : List ℕ) (room : ℕ) (r : Refusal)
             → answered room (writing magic grammar numbers) ≡ Outcome.refused r → P (r .number)
         unfolding writing walk-list
         writer-gives {grammar = grammar} gives magic numbers room r e =
-            answer-refused room (λ ns. magic ++ encoded grammar ns) (complete (length numbers) (walk grammar (in-list numbers) 0)) r
+            answer-refused short room (writing magic grammar numbers) r
+            (made-refused (λ ns. magic ++ encoded grammar ns) (complete (length numbers) (walk grammar (in-list numbers) 0)) r
             (complete-refused (length numbers) (walk grammar (in-list numbers) 0) r
-            (walk-refused gives (in-list numbers) (list-source numbers) 0 r)) e
+            (walk-refused gives (in-list numbers) (list-source numbers) 0 r))) e

@@ -12,7 +12,7 @@ use Rattle.leb128.specs.Walk.{asked}
 use Rattle.leb128.specs.Format.{Result, Outcome, encoded, answered}
 use Rattle.leb128.specs.Format.Result.{elements}
 use Rattle.leb128.specs.Number.{AreBytes}
-use Rattle.leb128.specs.Refusals.{something-follows, slice-short}
+use Rattle.leb128.specs.Refusals.{something-follows}
 use Rattle.leb128.specs.laws.EachNumber.{Each, each-map, most-asked as format-most-asked}
 use Rattle.leb128.specs.laws.AcceptedNumbers.{chain-accepts, most-numbers as accepted-most}
 use Rattle.leb128.specs.laws.GoodFormat.{good-reading, good-writing}
@@ -27,9 +27,9 @@ use Rattle.sheet.specs.Grammar.{sheet}
 use Rattle.sheet.specs.Reading.{read-sheet, write-sheet}
 use Rattle.sheet.specs.laws.SheetNumbers.{SheetNumber, each-sheet}
 use Rattle.sheet.specs.Refusals.{NumberRefusal, WriterRefusal, NumberTo, RefusalTo}
-use Rattle.sheet.specs.Refusals.NumberRefusal.{outside, apart}
 use Rattle.sheet.specs.Refusals.WriterRefusal.{ended, number, follows, short}
 use Rattle.sheet.specs.laws.LaidOut.{laid-out}
+use Rattle.sheet.specs.laws.Refusals.{number-given}
 use Rattle.sheet.specs.Layout.{LaidOut}
 
 -- the form holds each number
@@ -104,25 +104,13 @@ unfolding write-sheet
 writer-refusals =
     writer-gives (WriterRefusal NumberRefusal) ended follows short (number-rules (WriterRefusal NumberRefusal) (λ n r. number r)) magic
 
--- those of a number are 4 and 5
-number-given : {n : ℕ} → NumberRefusal n → NumberTo something-follows n
-number-given outside = (omega arith, omega arith)
-number-given apart = (omega arith, omega arith)
-
--- the writer's are from 1 to 7
-pub writer-given : {n : ℕ} → WriterRefusal NumberRefusal n → NumberTo slice-short n
-writer-given ended = (omega arith, omega arith)
-writer-given (number r) = let g = number-given r in (g .0, omega (arith, g .1))
-writer-given follows = (omega arith, omega arith)
-writer-given short = (omega arith, omega arith)
-
--- the reader's are from 1 to 6
+-- those of the reader are from 1 to 6
 reader-numbers : (bytes : List ℕ) (r : Refusal) → read-sheet bytes ≡ Result.refused r → NumberTo something-follows (r .number)
 unfolding read-sheet
 reader-numbers =
     reader-gives (NumberTo something-follows)
     (omega arith, omega arith) (omega arith, omega arith) (omega arith, omega arith) (omega arith, omega arith)
-    (number-rules (NumberTo something-follows) (λ n r. number-given r)) magic
+    (number-rules (NumberTo something-follows) number-given) magic
 
 -- at an offset of at most 5,121
 reader-offsets : (bytes : List ℕ) (r : Refusal) → read-sheet bytes ≡ Result.refused r → r .offset ≤ max-bytes
