@@ -1,7 +1,7 @@
 -- A word holds every answer: each value and each offset is below 2³², since a walk ends within the longest sheet, and each second
 -- value and each refusal's number is below 2¹⁶.
 use Prim.Native.Nat.{ℕ, _≤_, _<_}
-use mathlib.Core.Path.{_≡_, refl, sym, subst}
+use mathlib.Core.Path.{_≡_, refl, sym, ap, subst}
 use mathlib.Core.Logic.{⊎-elim}
 use mathlib.Core.Bool.{Bool, true, false}
 use mathlib.Core.List.{List}
@@ -9,16 +9,17 @@ use native.Mathlib.Omega.{arith}
 use lib.IntN.{ℤ}
 use borrow.Author.Tests.{lt-ltb, le-ltb}
 use lib.ListN.{length}
-use Rattle.leb128.specs.Refusals.{slice-short}
 use Rattle.leb128.specs.declared.Refusal.{Refusal}
-use Rattle.leb128.specs.Format.{Result, Outcome, answered}
+use Rattle.leb128.specs.Format.{Result, answered}
 use Rattle.leb128.specs.Format.Result.{elements}
 use Rattle.leb128.specs.laws.Cases.{lt-or-le}
 use Rattle.leb128.specs.Reply.{Reply}
-use Rattle.sheet.specs.Reading.{read-sheet, write-sheet}
-use Rattle.sheet.specs.laws.Sheets.{read-accepted, most-numbers, most-bytes, read-written, writer-refusals, writer-given}
-use Rattle.sheet.specs.laws.Sheets.{reader-refusals, writer-offsets}
-use Rattle.sheet.specs.Refusals.{RefusalTo}
+use Rattle.sheet.specs.Limits.{max-bytes}
+use Rattle.sheet.specs.Reading.{read-sheet, write-sheet, read-coordinates, write-coordinates}
+use Rattle.sheet.specs.Refusals.{NumberTo, RefusalTo}
+use Rattle.sheet.specs.laws.Refusals.{number-given, outside-given, reader-given, writer-given}
+use Rattle.sheet.specs.laws.Sheets as sheets
+use Rattle.sheet.specs.laws.Coordinates as files
 use Rattle.checker.specs.Verdict.{check-answer}
 use Rattle.checker.specs.laws.Refusals.{check-refusals}
 use Rattle.engine.specs.Draws.{Drawn, Draws}
@@ -31,60 +32,62 @@ use Rattle.engine.specs.Refusals.WidthRefusal.{read, none}
 use Rattle.strip.specs.Words.{number-unit, part-range, alone}
 use Rattle.strip.specs.HeldWords.{HeldRefusal, HeldResult, HeldOutcome, HeldDrawn, HeldJudgement, HeldNarrowed}
 
--- a refusal of a call that reads a sheet's bytes
+-- a refusal with a small number, at an offset within the longest sheet
+numbered-held : {most : ℕ} {r : Refusal} → NumberTo most (r .number) → most < part-range → r .offset ≤ max-bytes → HeldRefusal r
+numbered-held n m o = record { numbered = n .0; number-in = omega (arith, m, n .1); offset-in = omega (arith, o) }
+
+-- one of a call that reads a sheet's bytes
 given-held : {most : ℕ} {r : Refusal} → most < part-range → RefusalTo most r → HeldRefusal r
-given-held m g =
-    record {
-      numbered = g .number-in .0;
-      number-in = omega (arith, m, g .number-in .1);
-      offset-in = omega (arith, g .offset-in);
-    }
+given-held m g = numbered-held (g .number-in) m (g .offset-in)
 
 -- a result that is one number
 alone-held : {n : ℕ} → n < number-unit → HeldResult (alone n)
 alone-held h = record { second-in = omega arith; value-in = h }
 
--- elements are counted, or have no room
-elements-held : (room : ℕ) (es : List ℕ) → length es < number-unit → HeldOutcome (answered room (elements es))
+-- what is answered for a result: of few elements their count, or that they have no room; a refusal as it is
+answer-held : (room : ℕ) (result : Result) → ((es : List ℕ) → result ≡ elements es → length es < number-unit)
+    → ((r : Refusal) → result ≡ Result.refused r → HeldRefusal r) → HeldOutcome (answered room result)
 unfolding answered
-elements-held room es h =
+answer-held room (elements es) few held =
     ⊎-elim
     (λ (k : room < length es). rw (lt-ltb room (length es) k)
     (record { numbered = omega arith; number-in = omega arith; offset-in = omega arith }))
-    (λ (k : length es ≤ room). rw (le-ltb room (length es) k) (alone-held h))
+    (λ (k : length es ≤ room). rw (le-ltb room (length es) k) (alone-held (few es refl)))
     (lt-or-le room (length es))
+answer-held room (Result.refused r) few held = held r refl
 
--- a refusal is answered as it is
-refused-answer : (room : ℕ) (r : Refusal) → answered room (Result.refused r) ≡ Outcome.refused r
-unfolding answered
-refused-answer room r = refl
-
--- and held as it is
-refused-held : (room : ℕ) (r : Refusal) → HeldRefusal r → HeldOutcome (answered room (Result.refused r))
-unfolding answered
-refused-held room r h = h
-
--- of reading
+-- of reading a sheet
 pub reading-held : (bytes : List ℕ) (room : ℕ) → HeldOutcome (answered room (read-sheet bytes))
-reading-held bytes room = go (read-sheet bytes) refl
-  where
-    go : (read : Result) → read-sheet bytes ≡ read → HeldOutcome (answered room read)
-    go (elements numbers) e = elements-held room numbers (omega (arith, most-numbers numbers (read-accepted bytes numbers e)))
-    go (Result.refused r) e = refused-held room r (given-held (omega arith) (reader-refusals bytes r e))
+reading-held bytes room =
+    answer-held room (read-sheet bytes)
+    (λ numbers e. omega (arith, sheets.most-numbers numbers (sheets.read-accepted bytes numbers e)))
+    (λ r e. given-held (omega arith) (sheets.reader-refusals bytes r e))
 
--- of writing
+-- of writing one
 pub writing-held : (numbers : List ℕ) (room : ℕ) → HeldOutcome (answered room (write-sheet numbers))
-writing-held numbers room = go (write-sheet numbers) refl
-  where
-    go : (written : Result) → write-sheet numbers ≡ written → HeldOutcome (answered room written)
-    go (elements bytes) e = elements-held room bytes (omega (arith, most-bytes bytes numbers (read-written numbers bytes e)))
-    go (Result.refused r) e =
-        refused-held room r
-        (given-held {most = slice-short} (omega arith)
-        (record {
-          number-in = writer-given (writer-refusals numbers room r (rw e (refused-answer room r)));
-          offset-in = omega (arith, writer-offsets numbers r e);
-        }))
+unfolding answered
+writing-held numbers room =
+    answer-held room (write-sheet numbers)
+    (λ bytes e. omega (arith, sheets.most-bytes bytes numbers (sheets.read-written numbers bytes e)))
+    (λ r e. numbered-held (writer-given number-given (sheets.writer-refusals numbers room r (ap (answered room) e)))
+    (omega arith) (omega (arith, sheets.writer-offsets numbers r e)))
+
+-- of reading a coordinate file
+pub file-reading-held : (bytes : List ℕ) (room : ℕ) → HeldOutcome (answered room (read-coordinates bytes))
+file-reading-held bytes room =
+    answer-held room (read-coordinates bytes)
+    (λ numbers e. omega (arith, files.most-numbers numbers (files.read-accepted bytes numbers e)))
+    (λ r e. numbered-held (reader-given outside-given (files.reader-refusals bytes r e))
+    (omega arith) (omega (arith, files.reader-offsets bytes r e)))
+
+-- of writing one
+pub file-writing-held : (numbers : List ℕ) (room : ℕ) → HeldOutcome (answered room (write-coordinates numbers))
+unfolding answered
+file-writing-held numbers room =
+    answer-held room (write-coordinates numbers)
+    (λ bytes e. omega (arith, files.most-bytes bytes numbers (files.read-written numbers bytes e)))
+    (λ r e. numbered-held (writer-given outside-given (files.writer-refusals numbers room r (ap (answered room) e)))
+    (omega arith) (omega (arith, files.writer-offsets numbers r e)))
 
 -- of drawing
 pub drawing-held : (bytes p₀ : List ℕ) (y₀ : List ℤ) (p : List ℕ) (y : List ℤ) (d : Drawn)
