@@ -193,3 +193,7 @@ module _ (P : ℕ → Type 0) where
             (made-refused (λ ns. magic ++ encoded grammar ns) (complete (length numbers) (walk grammar (in-list numbers) 0)) r
             (complete-refused (length numbers) (walk grammar (in-list numbers) 0) r
             (walk-refused gives (in-list numbers) (list-source numbers) 0 r))) e
+
+-- a rule whose refusals are among others gives those
+pub gives-more : {P Q : ℕ → Type 0} → ((n : ℕ) → P n → Q n) → (form : Form) (rule : Rule) → Gives P form rule → Gives Q form rule
+gives-more {P} f form rule g n = ⊎-elim (λ (z : rule n ≡ 0). inl z) (λ (p : P (rule n)). inr (f (rule n) p)) (g n)

@@ -3,7 +3,6 @@
 use Prim.Native.Nat.{ℕ, zero, suc, _+_, _-_, _≤_, min}
 use mathlib.Core.Path.{_≡_, refl}
 use mathlib.Core.Bool.{false}
-use mathlib.Core.Logic.{inl, inr, ⊎-elim}
 use mathlib.Core.List.{List, _++_}
 use native.Mathlib.Omega.{arith}
 use lib.ListN.{length, take}
@@ -23,7 +22,7 @@ use Rattle.leb128.specs.laws.OneToOne.{Fits, accepted-written as format-accepte
 use Rattle.leb128.specs.laws.OneToOne.{write-read as format-write-read}
 use Rattle.leb128.specs.laws.Offsets.{reader-offsets as format-reader-offsets, writer-offsets as format-writer-offsets}
 use Rattle.leb128.specs.laws.FirstBytes.{front-reading, most-bytes as format-most-bytes}
-use Rattle.leb128.specs.laws.RefusalsGiven.{Gives, within-gives, reader-gives, writer-gives}
+use Rattle.leb128.specs.laws.RefusalsGiven.{Gives, within-gives, gives-more, reader-gives, writer-gives}
 use Rattle.leb128.specs.declared.Refusal.{Refusal}
 use Rattle.sheet.specs.Limits.{magic, max-layers, max-layer-nodes, max-nodes}
 use Rattle.sheet.specs.Limits.{coordinate-magic, max-coordinate, max-coordinate-numbers, max-coordinate-bytes}
@@ -119,10 +118,7 @@ first-bytes = front-reading coordinate-magic each-coordinates
 
 -- the rules of a file's numbers give refusals of P, where refusal 4 is one
 number-rules : (P : ℕ → Type 0) → ((n : ℕ) → Outside n → P n) → Each (Gives P) max-coordinate-numbers coordinates
-number-rules P f =
-    each-map
-    (λ form rule p n. ⊎-elim (λ (z : rule n ≡ 0). inl z) (λ (w : Outside (rule n)). inr (f (rule n) w)) (p .gives n))
-    each-coordinates
+number-rules P f = each-map (λ form rule p. gives-more f form rule (p .gives)) each-coordinates
 
 -- the reader gives refusals 1, 2, 3, 4 and 6 only
 pub reader-refusals : (bytes : List ℕ) (r : Refusal) → read-coordinates bytes ≡ Result.refused r → ReaderRefusal Outside (r .number)

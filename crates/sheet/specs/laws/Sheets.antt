@@ -3,7 +3,6 @@
 use Prim.Native.Nat.{ℕ, _+_, _≤_}
 use mathlib.Core.Path.{_≡_, sym, _∙_, ap}
 use mathlib.Core.List.{List, _++_}
-use mathlib.Core.Logic.{inl, inr, ⊎-elim}
 use native.Mathlib.Omega.{arith}
 use lib.ListN.{length, take}
 use Rattle.leb128.specs.Grammar.{Form, Rule, Accepts}
@@ -20,7 +19,7 @@ use Rattle.leb128.specs.laws.OneToOne.{Fits, accepted-written as format-accepte
 use Rattle.leb128.specs.laws.OneToOne.{write-read as format-write-read}
 use Rattle.leb128.specs.laws.Offsets.{reader-offsets as format-reader-offsets, writer-offsets as format-writer-offsets}
 use Rattle.leb128.specs.laws.FirstBytes.{front-reading, most-bytes as format-most-bytes}
-use Rattle.leb128.specs.laws.RefusalsGiven.{Gives, reader-gives, writer-gives}
+use Rattle.leb128.specs.laws.RefusalsGiven.{Gives, gives-more, reader-gives, writer-gives}
 use Rattle.leb128.specs.declared.Refusal.{Refusal}
 use Rattle.sheet.specs.Limits.{magic, max-numbers, max-bytes}
 use Rattle.sheet.specs.Grammar.{sheet}
@@ -93,9 +92,7 @@ read-alike one other e = sym (first-bytes one) ∙ (ap read-sheet e ∙ first-by
 
 -- the rules of a sheet's numbers give refusals of P, where those of a number are
 number-rules : (P : ℕ → Type 0) → ((n : ℕ) → NumberRefusal n → P n) → Each (Gives P) max-numbers sheet
-number-rules P f =
-    each-map
-    (λ form rule p n. ⊎-elim (λ (z : rule n ≡ 0). inl z) (λ (w : NumberRefusal (rule n)). inr (f (rule n) w)) (p .gives n)) each-sheet
+number-rules P f = each-map (λ form rule p. gives-more f form rule (p .gives)) each-sheet
 
 -- the writer gives refusals 1, 4, 5, 6 and 7 only
 pub writer-refusals : (numbers : List ℕ) (room : ℕ) (r : Refusal)
