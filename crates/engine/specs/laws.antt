@@ -2,6 +2,7 @@ pub mod Determined
 pub mod Accepted
 pub mod Refusals
 pub mod Totals
+pub mod DrawnFile
 pub mod TotalsAt
 pub mod Table
 pub mod Assigned
