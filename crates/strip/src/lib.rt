@@ -1,4 +1,4 @@
-// The library for other languages: the five calls under C names, each with its answer in one word. Nothing but the lent
+// The library for other languages: the seven calls under C names, each with its answer in one word. Nothing but the lent
 // slices is written.
 mod words;
 
@@ -9,7 +9,7 @@ use crate::words::verdict_word;
 ghost use mathlib.Core.Path.{_≡_};
 ghost use lib.ListN.{length};
 ghost use Rattle.leb128.specs.Format.{answered, filled};
-ghost use Rattle.sheet.specs.Reading.{«read-sheet», «write-sheet»};
+ghost use Rattle.sheet.specs.Reading.{«read-sheet», «write-sheet», «read-coordinates», «write-coordinates»};
 ghost use Rattle.checker.specs.Verdict.{«check-answer»};
 ghost use Rattle.strip.specs.Words.{«outcome-word», «judgement-word», DrawsWord, NarrowsWord};
 
@@ -54,4 +54,22 @@ pub extern "C" fn strip_narrowest(bytes: &[u8]) -> u64
     ensures { λ r. ⌜ NarrowsWord (read-sheet (now (bytes .entry))) r ⌝ }
 {
     minimum_word(engine::minimum_width(bytes))
+}
+
+// Reads a coordinate file's bytes into the front of the numbers.
+#[no_mangle]
+pub extern "C" fn strip_read_drawing(file: &[u8], numbers: &mut [u16]) -> u64
+    ensures answer { λ r. ⌜ r ≡ outcome-word (answered (length (now (numbers .entry))) (read-coordinates (now (file .entry)))) ⌝ }
+    ensures slice { λ r. ⌜ now (numbers .exit) ≡ filled (read-coordinates (now (file .entry))) (now (numbers .entry)) ⌝ }
+{
+    answer_word(sheet::read_coordinates(file, numbers))
+}
+
+// Writes the coordinate file of a number list into the front of the file.
+#[no_mangle]
+pub extern "C" fn strip_write_drawing(numbers: &[u16], file: &mut [u8]) -> u64
+    ensures answer { λ r. ⌜ r ≡ outcome-word (answered (length (now (file .entry))) (write-coordinates (now (numbers .entry)))) ⌝ }
+    ensures slice { λ r. ⌜ now (file .exit) ≡ filled (write-coordinates (now (numbers .entry))) (now (file .entry)) ⌝ }
+{
+    answer_word(sheet::write_coordinates(numbers, file))
 }
