@@ -1,5 +1,7 @@
 // The cases: the form of a line, and the operations.
 use crate::draw::draw_case;
+use crate::formats;
+use crate::formats::Format;
 use crate::hex;
 use crate::narrowest::narrowest_case;
 use crate::show;
@@ -48,43 +50,43 @@ fn fits_columns(line: &[u8]) -> bool {
     true
 }
 
-// Reads a sheet into a slice of so much room, and prints the answer and the slice.
-fn read_sheet(bytes: &[u8], numbers: &mut [u16], room: usize) {
+// Reads bytes of a format into a slice of so much room, and prints the answer and the slice.
+fn read_into(format: Format, bytes: &[u8], numbers: &mut [u16], room: usize) {
     let n = smaller(room, numbers.len());
     let lent = &mut numbers[0..n];
-    show::answer(sheet::read(bytes, lent));
+    show::answer(formats::read(format, bytes, lent));
     show::numbers(lent);
 }
 
-// `R`: the payload is the bytes of a sheet to read. Answers whether it is whole bytes.
-fn read_case(room: usize, payload: &[u8]) -> bool {
+// `R`, `F`: the payload is the bytes of a sheet or of a coordinate file to read. Answers whether it is whole bytes.
+fn read_case(format: Format, room: usize, payload: &[u8]) -> bool {
     if payload.len() % 2 != 0 {
         return false;
     }
     let mut bytes = [0u8; PAYLOAD_BYTES];
     let n = hex::bytes(payload, &mut bytes);
     let mut numbers = [0xa5a5u16; NUMBER_ROOM];
-    read_sheet(&bytes[0..n], &mut numbers, room);
+    read_into(format, &bytes[0..n], &mut numbers, room);
     true
 }
 
-// Writes a sheet into a slice of so much room, and prints the answer and the slice.
-fn write_sheet(numbers: &[u16], bytes: &mut [u8], room: usize) {
+// Writes numbers in a format into a slice of so much room, and prints the answer and the slice.
+fn write_into(format: Format, numbers: &[u16], bytes: &mut [u8], room: usize) {
     let n = smaller(room, bytes.len());
     let lent = &mut bytes[0..n];
-    show::answer(sheet::write(numbers, lent));
+    show::answer(formats::write(format, numbers, lent));
     show::bytes(lent);
 }
 
-// `W`: the payload is the numbers of a sheet to write. Answers whether it is whole numbers.
-fn write_case(room: usize, payload: &[u8]) -> bool {
+// `W`, `S`: the payload is the numbers of a sheet or of a coordinate file to write. Answers whether it is whole numbers.
+fn write_case(format: Format, room: usize, payload: &[u8]) -> bool {
     if payload.len() % 4 != 0 {
         return false;
     }
     let mut numbers = [0u16; PAYLOAD_NUMBERS];
     let n = hex::numbers(payload, &mut numbers);
     let mut bytes = [0xa5u8; BYTE_ROOM];
-    write_sheet(&numbers[0..n], &mut bytes, room);
+    write_into(format, &numbers[0..n], &mut bytes, room);
     true
 }
 
@@ -145,8 +147,10 @@ fn check_case(count: usize, length: usize, payload: &[u8]) -> bool {
 // Runs a case by its letter. Answers whether there is such an operation, with a payload of its form.
 fn operation(letter: u8, room: usize, at: usize, payload: &[u8]) -> bool {
     match letter {
-        b'R' => read_case(room, payload),
-        b'W' => write_case(room, payload),
+        b'R' => read_case(Format::Sheet, room, payload),
+        b'W' => write_case(Format::Sheet, room, payload),
+        b'F' => read_case(Format::Coordinates, room, payload),
+        b'S' => write_case(Format::Coordinates, room, payload),
         b'G' => get_case(at, payload),
         b'P' => put_case(room, at, payload),
         b'C' => check_case(room, at, payload),

@@ -1,6 +1,7 @@
 // Test of the library: answers each case of the standard input with what the library answers.
 mod cases;
 mod draw;
+mod formats;
 mod hex;
 mod input;
 mod narrowest;

@@ -26,7 +26,7 @@ fn refusal(r: Refusal) {
     decimal(r.offset);
 }
 
-// Prints the answer of the sheet's reader or writer.
+// Prints the answer of a reader or a writer.
 pub fn answer(answer: Answer) {
     match answer {
         Answer::Done(count) => {
