@@ -1,5 +1,5 @@
-//! Path strips: read, write, draw and check sheets with the proved library, and tell their minimum
-//! width.
+//! Path strips: read, write, draw and check sheets with the proved library, tell their minimum
+//! width, and read and write coordinate files, which hold drawings.
 //!
 //! Every input is allowed: what has no answer is refused, with a number and an offset. On a refusal
 //! no slice is written. Elements behind the last one written keep their contents. The functions
@@ -28,6 +28,11 @@ pub const MAX_NUMBERS: usize = 2559;
 pub const MAX_PLACES: usize = 256;
 /// The greatest count of numbers in a list: one for each edge and two for each node.
 pub const MAX_LIST: usize = 1024;
+/// The greatest count of numbers in the list of a coordinate file: the count of layers, one for
+/// each layer and one for each node.
+pub const MAX_DRAWING_NUMBERS: usize = 321;
+/// No coordinate file has more bytes.
+pub const MAX_DRAWING_BYTES: usize = 645;
 /// The stack that any of the library's functions needs, in bytes.
 pub const STACK_BYTES: usize = 53248;
 
@@ -36,15 +41,17 @@ pub const STACK_BYTES: usize = 53248;
 pub struct Refusal {
     /// One of the numbers below.
     pub number: u32,
-    /// The offset of a byte in the sheet, from 0; for [`write`] the index of a number.
+    /// The offset of a byte in the sheet or file, from 0; for [`write`] and [`write_drawing`] the
+    /// index of a number.
     pub offset: u32,
 }
 
 /// The numbers of the refusals.
 impl Refusal {
-    /// The input ends before the sheet does; the offset is its length.
+    /// The input ends before the sheet or file does; the offset is its length.
     pub const INPUT_ENDED: u32 = 1;
-    /// The first three bytes are not 53 50 31.
+    /// The first three bytes are not those of the format: 53 50 31 for a sheet, 53 44 31 for a
+    /// coordinate file. Both readers meet it, each with the other's bytes too.
     pub const NOT_A_SHEET: u32 = 2;
     /// A number is not in the fewest bytes, or takes more than two.
     pub const NUMBER_FORM: u32 = 3;
@@ -52,7 +59,7 @@ impl Refusal {
     pub const OUTSIDE_LIMITS: u32 = 4;
     /// A maximum separation is set and is below its minimum separation.
     pub const SEPARATIONS_CROSSED: u32 = 5;
-    /// Something follows the last edge.
+    /// Something follows the last edge of a sheet, or the last node of a coordinate file.
     pub const SOMETHING_FOLLOWS: u32 = 6;
     /// A slice is too short for what is to be read or written there.
     pub const SLICE_SHORT: u32 = 7;
@@ -113,6 +120,18 @@ mod raw {
             list_len: usize,
         ) -> u64;
         pub fn strip_narrowest(sheet: *const u8, sheet_len: usize) -> u64;
+        pub fn strip_read_drawing(
+            file: *const u8,
+            file_len: usize,
+            numbers: *mut u16,
+            numbers_len: usize,
+        ) -> u64;
+        pub fn strip_write_drawing(
+            numbers: *const u16,
+            numbers_len: usize,
+            file: *mut u8,
+            file_len: usize,
+        ) -> u64;
     }
 }
 
@@ -211,6 +230,56 @@ pub fn narrowest(sheet: &[u8]) -> Result<Narrowest, Refusal> {
         width: (answer >> 48) as u16,
         total,
     })
+}
+
+/// Reads a coordinate file into the front of a slice, and gives the count of numbers: the count of
+/// layers, then for each layer its count of nodes and their places.
+///
+/// Refusals 1, 2, 3, 4, 6 and 7. A slice of [`MAX_DRAWING_NUMBERS`] is long enough for every file.
+///
+/// ```
+/// let two_layers = [0x53, 0x44, 0x31, 2, 2, 5, 3, 1, 0];
+/// let mut numbers = [0; strip::MAX_DRAWING_NUMBERS];
+/// let count = strip::read_drawing(&two_layers, &mut numbers)?;
+/// assert_eq!(numbers[..count], [2, 2, 5, 8, 1, 0]);
+/// # Ok::<(), strip::Refusal>(())
+/// ```
+pub fn read_drawing(file: &[u8], numbers: &mut [u16]) -> Result<usize, Refusal> {
+    // SAFETY: as in `read`.
+    let answer = unsafe {
+        raw::strip_read_drawing(
+            file.as_ptr(),
+            file.len(),
+            numbers.as_mut_ptr(),
+            numbers.len(),
+        )
+    };
+    value(answer).map(|count| count as usize)
+}
+
+/// Writes the coordinate file of such a list into the front of a slice, and gives the count of
+/// bytes.
+///
+/// Refusals 1, 4, 6 and 7. A slice of [`MAX_DRAWING_BYTES`] is long enough for every file.
+///
+/// ```
+/// let mut file = [0; strip::MAX_DRAWING_BYTES];
+/// assert_eq!(strip::write_drawing(&[1, 2, 5, 8], &mut file), Ok(7));
+/// assert_eq!(file[..7], [0x53, 0x44, 0x31, 1, 2, 5, 3]);
+/// let refusal = strip::write_drawing(&[1, 2, 5, 5], &mut file).unwrap_err();
+/// assert_eq!(refusal.to_string(), "refused 4 at 3");
+/// ```
+pub fn write_drawing(numbers: &[u16], file: &mut [u8]) -> Result<usize, Refusal> {
+    // SAFETY: as in `read`.
+    let answer = unsafe {
+        raw::strip_write_drawing(
+            numbers.as_ptr(),
+            numbers.len(),
+            file.as_mut_ptr(),
+            file.len(),
+        )
+    };
+    value(answer).map(|count| count as usize)
 }
 
 /// The value of an answer, or the refusal.

@@ -1,12 +1,14 @@
 /*
- * Path strips: read, write, draw and check sheets, and tell their minimum width.
+ * Path strips: read, write, draw and check sheets, tell their minimum width, and read and write
+ * coordinate files, which hold drawings.
  *
  * A slice is a pointer to its first element and the count of its elements. An answer is one number
  * of 64 bits: strip_refusal() is 0 where the call succeeded, and strip_value() is then its result.
  * Otherwise strip_refusal() says why there is none, and strip_value() where: the offset of a byte
- * in the sheet (for strip_write the index of a number), from 0. strip_second() is the second result
- * of strip_narrowest; it is 0 on every refusal and in every other call. On a refusal no slice is
- * written. Elements behind the last one written keep their contents.
+ * in the sheet or file (for strip_write and strip_write_drawing the index of a number), from 0.
+ * strip_second() is the second result of strip_narrowest; it is 0 on every refusal and in every
+ * other call. On a refusal no slice is written. Elements behind the last one written keep their
+ * contents.
  *
  * What the caller sees to: pointers are valid for as many elements as the count says, and aligned.
  * A slice that is written overlaps no other. A pointer may be NULL where the count is 0. Apart from
@@ -40,6 +42,11 @@ extern "C" {
 #define STRIP_MAX_PLACES 256
 /* The greatest count of numbers in a list: one for each edge and two for each node. */
 #define STRIP_MAX_LIST 1024
+/* The greatest count of numbers in the list of a coordinate file: the count of layers, one for each
+ * layer and one for each node. */
+#define STRIP_MAX_DRAWING_NUMBERS 321
+/* No coordinate file has more bytes. */
+#define STRIP_MAX_DRAWING_BYTES 645
 /* The stack that any of the functions needs, in bytes. strip_narrowest needs the most. */
 #define STRIP_STACK_BYTES 53248
 
@@ -47,9 +54,10 @@ extern "C" {
 enum {
     /* The call succeeded. */
     STRIP_OK = 0,
-    /* The input ends before the sheet does; the value is its length. */
+    /* The input ends before the sheet or file does; the value is its length. */
     STRIP_INPUT_ENDED = 1,
-    /* The first three bytes are not 53 50 31. */
+    /* The first three bytes are not those of the format: 53 50 31 for a sheet, 53 44 31 for a
+     * coordinate file. Both readers meet it, each with the other's bytes too. */
     STRIP_NOT_A_SHEET = 2,
     /* A number is not in the fewest bytes, or takes more than two. */
     STRIP_NUMBER_FORM = 3,
@@ -57,7 +65,7 @@ enum {
     STRIP_OUTSIDE_LIMITS = 4,
     /* A maximum separation is set and is below its minimum separation. */
     STRIP_SEPARATIONS_CROSSED = 5,
-    /* Something follows the last edge. */
+    /* Something follows the last edge of a sheet, or the last node of a coordinate file. */
     STRIP_SOMETHING_FOLLOWS = 6,
     /* A slice is too short for what is to be read or written there. */
     STRIP_SLICE_SHORT = 7,
@@ -93,6 +101,17 @@ uint64_t strip_check(const uint8_t *sheet, size_t sheet_len,
  * and the least total at that width. The value is the total, strip_second() the width. Refusals 1
  * to 6 and 10. */
 uint64_t strip_narrowest(const uint8_t *sheet, size_t sheet_len);
+
+/* Reads a coordinate file into the front of numbers: the count of layers, then for each layer its
+ * count of nodes and their places. The value is the count of numbers. Refusals 1, 2, 3, 4, 6 and 7.
+ * STRIP_MAX_DRAWING_NUMBERS elements are enough for every file. */
+uint64_t strip_read_drawing(const uint8_t *file, size_t file_len,
+                            uint16_t *numbers, size_t numbers_len);
+
+/* Writes the coordinate file of such a list into the front of file. The value is the count of
+ * bytes. Refusals 1, 4, 6 and 7. STRIP_MAX_DRAWING_BYTES elements are enough for every file. */
+uint64_t strip_write_drawing(const uint16_t *numbers, size_t numbers_len,
+                             uint8_t *file, size_t file_len);
 
 /* The number of the refusal in an answer; 0 where the call succeeded. */
 static inline uint32_t strip_refusal(uint64_t answer) {
