@@ -17,4 +17,5 @@ pub mod residual;
 pub mod sheet;
 pub mod simplex;
 pub mod solver;
+pub mod source;
 pub mod tree;

@@ -4,10 +4,8 @@
 
 use std::ops::RangeInclusive;
 
-use crate::number;
-use crate::refusal::{
-    Refusal, ENDED, EXCESS, MAXIMUM_BELOW_MINIMUM, NOT_A_SHEET, OUTSIDE_LIMITS, SLICE_TOO_SHORT,
-};
+use crate::refusal::{Refusal, MAXIMUM_BELOW_MINIMUM};
+use crate::source::{encoded, fill_front, Bytes, List, Source};
 
 /// The three bytes a sheet starts with.
 pub const SIGNATURE: [u8; 3] = [0x53, 0x50, 0x31];
@@ -32,95 +30,14 @@ pub const NUMBER_LIMIT: usize = 2559;
 
 /// Reads a sheet from its bytes into the front of `numbers` and says how many there are.
 pub fn read(bytes: &[u8], numbers: &mut [u16]) -> Result<usize, Refusal> {
-    if bytes.len() < SIGNATURE.len() {
-        return Err(Refusal::new(ENDED, bytes.len()));
-    }
-    if !bytes.starts_with(&SIGNATURE) {
-        return Err(Refusal::new(NOT_A_SHEET, 0));
-    }
-    let at = SIGNATURE.len();
-    let found = Walk::new(Bytes { bytes, at }).sheet()?;
+    let found = Walk::new(Bytes::behind(SIGNATURE, bytes)?).sheet()?;
     fill_front(numbers, &found)
 }
 
 /// Writes a sheet from its numbers into the front of `bytes` and says how many bytes there are.
 pub fn write(numbers: &[u16], bytes: &mut [u8]) -> Result<usize, Refusal> {
-    let found = Walk::new(List { numbers, at: 0 }).sheet()?;
-    let mut encoded = SIGNATURE.to_vec();
-    for n in found {
-        let form = number::form(n.into()).expect("a number within its limits has a form");
-        encoded.extend(form);
-    }
-    fill_front(bytes, &encoded)
-}
-
-/// Copies the elements to the front of a slice, or refuses a slice that is too short.
-fn fill_front<T: Copy>(slice: &mut [T], elements: &[T]) -> Result<usize, Refusal> {
-    match slice.get_mut(..elements.len()) {
-        Some(front) => {
-            front.copy_from_slice(elements);
-            Ok(elements.len())
-        }
-        None => Err(Refusal::new(SLICE_TOO_SHORT, 0)),
-    }
-}
-
-/// Where the numbers of a sheet come from.
-trait Source {
-    /// The offset of the next number.
-    fn at(&self) -> usize;
-    /// Whether nothing is left.
-    fn is_empty(&self) -> bool;
-    /// Takes the next number.
-    fn take(&mut self) -> Result<u32, Refusal>;
-}
-
-/// The bytes of a sheet, read up to a position.
-struct Bytes<'a> {
-    bytes: &'a [u8],
-    at: usize,
-}
-
-impl Source for Bytes<'_> {
-    fn at(&self) -> usize {
-        self.at
-    }
-
-    fn is_empty(&self) -> bool {
-        self.at == self.bytes.len()
-    }
-
-    fn take(&mut self) -> Result<u32, Refusal> {
-        let (value, next) = number::read(self.bytes, self.at)?;
-        self.at = next;
-        Ok(value)
-    }
-}
-
-/// The number list of a sheet, read up to an index.
-struct List<'a> {
-    numbers: &'a [u16],
-    at: usize,
-}
-
-impl Source for List<'_> {
-    fn at(&self) -> usize {
-        self.at
-    }
-
-    fn is_empty(&self) -> bool {
-        self.at == self.numbers.len()
-    }
-
-    fn take(&mut self) -> Result<u32, Refusal> {
-        match self.numbers.get(self.at) {
-            Some(&value) => {
-                self.at += 1;
-                Ok(value.into())
-            }
-            None => Err(Refusal::new(ENDED, self.numbers.len())),
-        }
-    }
+    let found = Walk::new(List::new(numbers)).sheet()?;
+    fill_front(bytes, &encoded(SIGNATURE, found))
 }
 
 /// A walk through a sheet that tests each number as it is taken, and keeps it.
@@ -146,9 +63,7 @@ impl<S: Source> Walk<S> {
         for _ in 0..edge_count {
             self.edge(&counts)?;
         }
-        if !self.source.is_empty() {
-            return Err(Refusal::new(EXCESS, self.source.at()));
-        }
+        self.source.end()?;
         Ok(self.taken)
     }
 
@@ -189,16 +104,10 @@ impl<S: Source> Walk<S> {
         Ok(())
     }
 
-    /// Takes the next number and tests it against its limits; empty limits admit nothing.
+    /// Takes the next number within its limits, and keeps it.
     fn number(&mut self, limits: RangeInclusive<u16>) -> Result<u16, Refusal> {
-        let offset = self.source.at();
-        let value = self.source.take()?;
-        match u16::try_from(value) {
-            Ok(n) if limits.contains(&n) => {
-                self.taken.push(n);
-                Ok(n)
-            }
-            _ => Err(Refusal::new(OUTSIDE_LIMITS, offset)),
-        }
+        let n = self.source.number(limits)?;
+        self.taken.push(n);
+        Ok(n)
     }
 }
