@@ -6,6 +6,7 @@
 pub mod cancelling;
 pub mod certificate;
 pub mod checker;
+pub mod coordinates;
 pub mod drawing;
 pub mod engine;
 pub mod minimum_width;

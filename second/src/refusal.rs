@@ -1,8 +1,8 @@
 //! Refusals: why an input is not taken, and where.
 
-/// The input ends before the sheet does.
+/// The input ends before the sheet or the coordinate file does.
 pub const ENDED: u32 = 1;
-/// Three bytes are there and are not the signature.
+/// Three bytes are there and are not the signature of the format.
 pub const NOT_A_SHEET: u32 = 2;
 /// A number is not in its shortest form of at most two bytes.
 pub const BAD_FORM: u32 = 3;
@@ -10,7 +10,7 @@ pub const BAD_FORM: u32 = 3;
 pub const OUTSIDE_LIMITS: u32 = 4;
 /// A maximum separation is set and is below its minimum separation.
 pub const MAXIMUM_BELOW_MINIMUM: u32 = 5;
-/// Something follows the last edge.
+/// Something follows the last edge, or in a coordinate file the last node.
 pub const EXCESS: u32 = 6;
 /// A slice is too short for what is to be read or written there.
 pub const SLICE_TOO_SHORT: u32 = 7;

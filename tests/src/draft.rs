@@ -88,9 +88,14 @@ impl Draft {
     }
 }
 
-/// The signature and the numbers behind it, whatever they are.
+/// The signature of a sheet and the numbers behind it, whatever they are.
 pub fn encode(numbers: &[u16]) -> Vec<u8> {
-    let mut bytes = SIGNATURE.to_vec();
+    encode_behind(SIGNATURE, numbers)
+}
+
+/// A signature and the numbers behind it, whatever they are.
+pub fn encode_behind(signature: [u8; 3], numbers: &[u16]) -> Vec<u8> {
+    let mut bytes = signature.to_vec();
     for &n in numbers {
         match number::form(n.into()) {
             Some(form) => bytes.extend(form),

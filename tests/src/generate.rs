@@ -87,7 +87,7 @@ fn sized(random: &mut Random, size: &Size) -> Draft {
 }
 
 /// Random counts of nodes for a random count of layers.
-fn node_counts(random: &mut Random) -> Vec<u16> {
+pub fn node_counts(random: &mut Random) -> Vec<u16> {
     let (layers, nodes) = if random.once_in(10) {
         (LAYER_LIMIT, LAYER_NODE_LIMIT)
     } else {
@@ -151,7 +151,7 @@ pub fn fullest(layers: u16) -> Draft {
 }
 
 /// Counts of nodes that reach the limits from the first layer on.
-fn full_counts(layers: u16) -> Vec<u16> {
+pub fn full_counts(layers: u16) -> Vec<u16> {
     let mut counts = vec![1; layers.into()];
     let mut spare = NODE_LIMIT - layers;
     for count in &mut counts {

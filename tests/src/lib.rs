@@ -1,5 +1,5 @@
-//! What the tests are made of: sheets by hand and at random, damage, the cases of `library_test`, and
-//! the comparison of a library with the second implementation.
+//! What the tests are made of: sheets and coordinate files by hand and at random, damage, the cases of
+//! `library_test`, and the comparison of a library with the second implementation.
 
 pub mod cases;
 pub mod compare;
@@ -9,6 +9,7 @@ pub mod draft;
 pub mod driver;
 pub mod examples;
 pub mod families;
+pub mod files;
 pub mod generate;
 pub mod mutation;
 pub mod planted;
