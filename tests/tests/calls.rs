@@ -70,6 +70,8 @@ fn wrapper_has_the_numbers_of_the_header() {
         ("MAX_NUMBERS", strip::MAX_NUMBERS as u32),
         ("MAX_PLACES", strip::MAX_PLACES as u32),
         ("MAX_LIST", strip::MAX_LIST as u32),
+        ("MAX_DRAWING_NUMBERS", strip::MAX_DRAWING_NUMBERS as u32),
+        ("MAX_DRAWING_BYTES", strip::MAX_DRAWING_BYTES as u32),
         ("STACK_BYTES", strip::STACK_BYTES as u32),
     ];
     let numbers = numbers.map(|(name, number)| (name.to_string(), number));

@@ -145,7 +145,9 @@ fn installed_files_serve_and_go_again() {
             "strip_draw",
             "strip_narrowest",
             "strip_read",
-            "strip_write"
+            "strip_read_drawing",
+            "strip_write",
+            "strip_write_drawing"
         ]
     );
     check_shared(&folder);
