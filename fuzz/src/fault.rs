@@ -36,4 +36,12 @@ impl Library for Faulty {
     fn narrowest(&self, sheet: &[u8]) -> Result<Minimum, Refusal> {
         Proved.narrowest(sheet)
     }
+
+    fn read_drawing(&self, file: &[u8], numbers: &mut [u16]) -> Result<usize, Refusal> {
+        Proved.read_drawing(file, numbers)
+    }
+
+    fn write_drawing(&self, numbers: &[u16], file: &mut [u8]) -> Result<usize, Refusal> {
+        Proved.write_drawing(numbers, file)
+    }
 }

@@ -8,6 +8,7 @@
 
 mod call;
 pub mod check;
+pub mod coordinates;
 pub mod draw;
 pub mod format;
 pub mod narrowest;
@@ -70,6 +71,7 @@ pub fn others() -> Vec<Group> {
     groups.extend(check::others());
     groups.extend(draw::others());
     groups.extend(narrowest::others());
+    groups.extend(coordinates::others());
     groups
 }
 

@@ -4,6 +4,7 @@
 //! one; both checkers must accept it.
 
 mod checking;
+pub mod coordinates;
 mod drawing;
 mod format;
 mod narrowest;
@@ -20,7 +21,7 @@ pub use checking::judge;
 pub use format::{read, read_into, write, write_into};
 pub use tally::{grouped, scale, Tally};
 
-/// The five functions of a library, as documents 01 and 02 have them.
+/// The seven functions of a library, as documents 01 and 02 have them.
 pub trait Library {
     /// Reads a sheet's numbers into the front of a slice, and gives their count.
     fn read(&self, sheet: &[u8], numbers: &mut [u16]) -> Result<usize, Refusal>;
@@ -32,6 +33,10 @@ pub trait Library {
     fn check(&self, sheet: &[u8], places: &[u16], list: &[i32]) -> Result<bool, Refusal>;
     /// Tells the minimum width of a sheet, and the least total there.
     fn narrowest(&self, sheet: &[u8]) -> Result<Minimum, Refusal>;
+    /// Reads the numbers of a coordinate file into the front of a slice, and gives their count.
+    fn read_drawing(&self, file: &[u8], numbers: &mut [u16]) -> Result<usize, Refusal>;
+    /// Writes the coordinate file of a list into the front of a slice, and gives the count of bytes.
+    fn write_drawing(&self, numbers: &[u16], file: &mut [u8]) -> Result<usize, Refusal>;
 }
 
 /// What both answer to a sheet, and how often both checkers say yes and no.
@@ -45,11 +50,14 @@ pub struct Outcome {
     pub no: usize,
 }
 
-/// Compares all that is answered to these bytes: reading them, writing what is read, drawing,
-/// checking the drawing and near misses of it, and the minimum width.
+/// Compares all that is answered to these bytes: reading them as a sheet and as a coordinate file,
+/// writing what is read, drawing, the coordinate file of the drawing, checking the drawing and near
+/// misses of it, and the minimum width.
 pub fn sheet(library: &impl Library, bytes: &[u8]) -> Outcome {
     let mut random = Random::new(seed(bytes));
     let _ = write(library, &pairs(bytes));
+    let _ = coordinates::write(library, &pairs(bytes));
+    let _ = coordinates::file(library, bytes);
     match read(library, bytes) {
         Ok(numbers) => {
             let written = write(library, &numbers);
@@ -59,6 +67,9 @@ pub fn sheet(library: &impl Library, bytes: &[u8]) -> Outcome {
             }
             let sheet = Sheet::from_numbers(&numbers);
             let drawn = drawing::good(library, bytes, &sheet);
+            if let Ok(drawn) = &drawn {
+                coordinates::drawn(library, &sheet, &drawn.places);
+            }
             let (yes, no) = checking::good(library, &mut random, bytes, &sheet, drawn.as_ref());
             let minimum = narrowest::good(library, bytes, &numbers);
             let is_enough = minimum.is_ok_and(|minimum| minimum.width <= sheet.width);
@@ -101,6 +112,12 @@ pub fn call(library: &impl Library, call: &Call) -> Option<Result<bool, Refusal>
             list,
         } => Some(drawing::into(library, bytes, *places, *list).map(|_| true)),
         Call::Narrowest { bytes } => Some(narrowest::told(library, bytes).map(|_| true)),
+        Call::ReadDrawing { file, room } => {
+            Some(coordinates::read_into(library, file, *room).map(|_| true))
+        }
+        Call::WriteDrawing { numbers, room } => {
+            Some(coordinates::write_into(library, numbers, *room).map(|_| true))
+        }
     }
 }
 

@@ -1,10 +1,12 @@
-//! Damaged bytes of sheets, one kind of damage each.
+//! Damaged bytes of sheets and coordinate files, one kind of damage each.
 
 use crate::random::Random;
 use second::number;
-use second::sheet::SIGNATURE;
 
-/// A kind of damage: random bytes from those of a good sheet.
+/// How many bytes the signature has.
+const SIGNATURE: usize = 3;
+
+/// A kind of damage: random bytes from those of a good sheet or coordinate file.
 pub type Damage = fn(&mut Random, &[u8]) -> Vec<u8>;
 
 /// All kinds of damage, with names.
@@ -60,7 +62,7 @@ fn one_byte(random: &mut Random, bytes: &[u8]) -> Vec<u8> {
 fn several_bytes(random: &mut Random, bytes: &[u8]) -> Vec<u8> {
     let mut changed = bytes.to_vec();
     for _ in 0..random.within(2..=6) {
-        let i = SIGNATURE.len() + random.index(bytes.len() - SIGNATURE.len());
+        let i = SIGNATURE + random.index(bytes.len() - SIGNATURE);
         changed[i] = random.within(0..=9) as u8;
     }
     changed
@@ -89,13 +91,13 @@ fn exchanged(random: &mut Random, bytes: &[u8]) -> Vec<u8> {
     changed
 }
 
-/// The sheet with one number's bytes replaced by what is given for its value.
+/// The bytes with those of one number replaced by what is given for its value.
 fn with_number(
     random: &mut Random,
     bytes: &[u8],
     form: impl Fn(&mut Random, u32) -> Vec<u8>,
 ) -> Vec<u8> {
-    let mut at = SIGNATURE.len();
+    let mut at = SIGNATURE;
     let mut numbers = Vec::new();
     while let Ok((value, next)) = number::read(bytes, at) {
         numbers.push((at, value, next));
@@ -143,7 +145,7 @@ fn long_form(random: &mut Random, bytes: &[u8]) -> Vec<u8> {
 
 /// Random bytes, small as a rule, behind the signature.
 fn random_bytes(random: &mut Random, bytes: &[u8]) -> Vec<u8> {
-    let mut any = SIGNATURE.to_vec();
+    let mut any = bytes[..SIGNATURE].to_vec();
     for _ in 0..random.index(bytes.len()) {
         let greatest = if random.once_in(8) { 255 } else { 3 };
         any.push(random.within(0..=greatest) as u8);

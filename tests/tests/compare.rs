@@ -1,7 +1,10 @@
 //! The comparison itself: it finds each fault that a library is given, and none where there is none.
 
+mod rules;
+
 use std::panic::{catch_unwind, AssertUnwindSafe};
 
+use rules::{Broken, Rule, READER, WRITER};
 use second::certificate;
 use second::checker;
 use second::drawing::{total, Sheet};
@@ -13,6 +16,7 @@ use second::solver::solve;
 use strip_tests::compare::{sheet, Library};
 use strip_tests::document::{self, REFUSED};
 use strip_tests::families::turned::mirrored;
+use strip_tests::files::{self, Rows};
 use strip_tests::generate;
 use strip_tests::random::Random;
 
@@ -46,10 +50,14 @@ enum Fault {
     NarrowestWider,
     NarrowestNumber,
     NarrowestOffset,
+    /// The reader of coordinate files breaks a rule.
+    ReadFile(Rule),
+    /// The writer of coordinate files breaks a rule.
+    WriteFile(Rule),
 }
 
-/// All faults.
-const FAULTS: [Fault; 26] = [
+/// The faults that concern sheets.
+const SHEET_FAULTS: [Fault; 26] = [
     Fault::ReadOffset,
     Fault::ReadBehind,
     Fault::ReadOnRefusal,
@@ -77,6 +85,14 @@ const FAULTS: [Fault; 26] = [
     Fault::NarrowestNumber,
     Fault::NarrowestOffset,
 ];
+
+/// All faults.
+fn faults() -> Vec<Fault> {
+    let mut faults = SHEET_FAULTS.to_vec();
+    faults.extend(READER.map(Fault::ReadFile));
+    faults.extend(WRITER.map(Fault::WriteFile));
+    faults
+}
 
 /// This package as a library with a fault.
 struct Faulty(Fault);
@@ -192,6 +208,22 @@ impl Library for Faulty {
             _ => answer,
         }
     }
+
+    fn read_drawing(&self, file: &[u8], numbers: &mut [u16]) -> Result<usize, Refusal> {
+        let broken = match self.0 {
+            Fault::ReadFile(rule) => Some(rule),
+            _ => None,
+        };
+        Broken(broken).read(file, numbers)
+    }
+
+    fn write_drawing(&self, numbers: &[u16], file: &mut [u8]) -> Result<usize, Refusal> {
+        let broken = match self.0 {
+            Fault::WriteFile(rule) => Some(rule),
+            _ => None,
+        };
+        Broken(broken).write(numbers, file)
+    }
 }
 
 /// A good sheet as it is.
@@ -229,17 +261,31 @@ fn loose() -> Vec<u8> {
     document::stair(5, PLAIN).bytes()
 }
 
-/// Sheets of all kinds, good and bad.
+/// Sheets and coordinate files of all kinds, good and bad.
 fn inputs() -> Vec<Vec<u8>> {
     let mut random = Random::new(41);
     let mut inputs: Vec<Vec<u8>> = REFUSED.iter().map(|(_, bytes)| bytes.to_vec()).collect();
     inputs.extend(document::sheets().iter().map(|(_, draft)| draft.bytes()));
     inputs.push(loose());
+    inputs.extend(files::GOOD.map(|(_, bytes, _)| bytes.to_vec()));
+    inputs.extend(files::REFUSED.map(|(_, bytes, _)| bytes.to_vec()));
+    inputs.push(files::side_by_side(4032).bytes());
+    inputs.extend([files::longest(), too_many()].map(|rows| rows.bytes()));
+    // a number list, since bytes are also written two by two
+    let numbers = too_many().numbers().into_iter();
+    inputs.push(numbers.flat_map(u16::to_le_bytes).collect());
     for _ in 0..300 {
         let draft = generate::tiny(&mut random);
         inputs.extend([draft.bytes(), mirrored(&draft).bytes()]);
     }
     inputs
+}
+
+/// A drawing of 257 nodes.
+fn too_many() -> Rows {
+    let mut rows = files::longest();
+    rows.0[63].push(4095);
+    rows
 }
 
 /// Whether comparing an input finds a difference.
@@ -259,7 +305,7 @@ fn a_library_without_fault_passes() {
 #[test]
 fn every_fault_is_found() {
     let inputs = inputs();
-    for fault in FAULTS {
+    for fault in faults() {
         let found = inputs.iter().any(|bytes| is_found(fault, bytes));
         assert!(found, "{fault:?}");
     }

@@ -3,7 +3,9 @@
 mod library;
 
 use library::Proved;
-use strip_tests::cases::{check, draw, format, narrowest, others, stored, Group, Line};
+use strip_tests::cases::{
+    check, coordinates, draw, format, narrowest, others, stored, Group, Line,
+};
 use strip_tests::compare::{self, grouped};
 
 /// How often a case is taken or gets a yes, gets a no, and is refused.
@@ -69,6 +71,15 @@ fn widths_and_extremes_narrowed() {
     let answers = Answers::of("cases of the minimum width", &narrowest::others());
     assert!(answers.taken > 70);
     for (number, least) in [(1, 4), (3, 5), (4, 4), (5, 1), (10, 9)] {
+        assert!(answers.refused[number] >= least, "refused {number}");
+    }
+}
+
+#[test]
+fn coordinate_files_at_the_limits_read_and_written() {
+    let answers = Answers::of("cases of coordinate files", &coordinates::others());
+    assert!(answers.taken > 100);
+    for (number, least) in [(1, 20), (2, 30), (3, 30), (4, 150), (6, 10), (7, 30)] {
         assert!(answers.refused[number] >= least, "refused {number}");
     }
 }

@@ -25,4 +25,8 @@ pub enum Call {
     },
     /// Tells the minimum width of a sheet.
     Narrowest { bytes: Vec<u8> },
+    /// Reads a coordinate file into a slice of so many numbers.
+    ReadDrawing { file: Vec<u8>, room: usize },
+    /// Writes the coordinate file of a list into a slice of so many bytes.
+    WriteDrawing { numbers: Vec<u16>, room: usize },
 }

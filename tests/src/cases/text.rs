@@ -16,6 +16,10 @@
 //!   The answer ends in the checker's word on that sheet and these slices.
 //! - `N` tells the minimum width of the sheet whose bytes are the payload, and the least total there;
 //!   both numbers are 0.
+//! - `F` reads the coordinate file whose bytes are the payload into a slice of so many numbers; the
+//!   second number is 0.
+//! - `S` writes the coordinate file whose number list is the payload into a slice of so many bytes; the
+//!   second number is 0.
 //!
 //! Every byte of a slice is a5 before the call. The answer is followed by every element of each slice
 //! as it is after the call.
@@ -24,6 +28,7 @@ use std::fmt::{Display, LowerHex};
 
 use second::certificate;
 use second::checker::check;
+use second::coordinates;
 use second::drawing::Sheet;
 use second::engine::draw;
 use second::minimum_width::minimum_width;
@@ -92,6 +97,8 @@ impl Call {
                 list,
             } => ('D', *places, *list, digits(bytes, 2, "")),
             Call::Narrowest { bytes } => ('N', 0, 0, digits(bytes, 2, "")),
+            Call::ReadDrawing { file, room } => ('F', *room, 0, digits(file, 2, "")),
+            Call::WriteDrawing { numbers, room } => ('S', *room, 0, digits(numbers, 4, "")),
         };
         format!("{letter} {first:04x} {second:04x} {payload}")
     }
@@ -99,16 +106,8 @@ impl Call {
     /// The line of output.
     fn output(&self) -> String {
         match self {
-            Call::Read { bytes, room } => {
-                let mut slice = vec![NUMBER_FILL; *room];
-                let answer = answered("done", sheet::read(bytes, &mut slice));
-                answer + ":" + &digits(&slice, 4, " ")
-            }
-            Call::Write { numbers, room } => {
-                let mut slice = vec![BYTE_FILL; *room];
-                let answer = answered("done", sheet::write(numbers, &mut slice));
-                answer + ":" + &digits(&slice, 2, " ")
-            }
+            Call::Read { bytes, room } => read(*room, |slice| sheet::read(bytes, slice)),
+            Call::Write { numbers, room } => write(*room, |slice| sheet::write(numbers, slice)),
             Call::ReadNumber { bytes, at } => match number::read(bytes, *at) {
                 Ok((value, next)) => format!("value {value} next {next}"),
                 Err(refusal) => refused(refusal),
@@ -136,8 +135,26 @@ impl Call {
                 Ok(minimum) => format!("narrowest {} {}", minimum.width, minimum.total),
                 Err(refusal) => refused(refusal),
             },
+            Call::ReadDrawing { file, room } => read(*room, |slice| coordinates::read(file, slice)),
+            Call::WriteDrawing { numbers, room } => {
+                write(*room, |slice| coordinates::write(numbers, slice))
+            }
         }
     }
+}
+
+/// The line of output of a reader, with a slice of so many numbers.
+fn read(room: usize, call: impl FnOnce(&mut [u16]) -> Result<usize, Refusal>) -> String {
+    let mut slice = vec![NUMBER_FILL; room];
+    let answer = answered("done", call(&mut slice));
+    answer + ":" + &digits(&slice, 4, " ")
+}
+
+/// The line of output of a writer, with a slice of so many bytes.
+fn write(room: usize, call: impl FnOnce(&mut [u8]) -> Result<usize, Refusal>) -> String {
+    let mut slice = vec![BYTE_FILL; room];
+    let answer = answered("done", call(&mut slice));
+    answer + ":" + &digits(&slice, 2, " ")
 }
 
 /// The line of output of a drawing.

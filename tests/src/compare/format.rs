@@ -1,4 +1,4 @@
-//! Comparing readers and writers.
+//! Comparing readers and writers of sheets.
 
 use std::fmt::Debug;
 
@@ -8,9 +8,9 @@ use second::sheet::{self, NUMBER_LIMIT};
 use super::Library;
 
 /// What every number holds before a call.
-const NUMBER_FILL: u16 = 0xa5a5;
+pub const NUMBER_FILL: u16 = 0xa5a5;
 /// What every byte holds before a call.
-const BYTE_FILL: u8 = 0xa5;
+pub const BYTE_FILL: u8 = 0xa5;
 /// More bytes than any sheet has.
 const BYTES: usize = 5123;
 
@@ -26,11 +26,11 @@ pub fn write(library: &impl Library, numbers: &[u16]) -> Result<Vec<u8>, Refusal
 
 /// Compares reading into slices of this length, and gives the numbers.
 pub fn read_into(library: &impl Library, bytes: &[u8], room: usize) -> Result<Vec<u16>, Refusal> {
-    let (mut ours, mut theirs) = (vec![NUMBER_FILL; room], vec![NUMBER_FILL; room]);
-    let expected = sheet::read(bytes, &mut ours);
-    let found = library.read(bytes, &mut theirs);
-    let told = || format!("reading {bytes:02x?}, length {room}");
-    same((found, theirs), (expected, ours), told)
+    same(
+        lent(NUMBER_FILL, room, |slice| library.read(bytes, slice)),
+        lent(NUMBER_FILL, room, |slice| sheet::read(bytes, slice)),
+        || format!("reading {bytes:02x?}, length {room}"),
+    )
 }
 
 /// Compares writing into slices of this length, and gives the bytes.
@@ -39,18 +39,29 @@ pub fn write_into(
     numbers: &[u16],
     room: usize,
 ) -> Result<Vec<u8>, Refusal> {
-    let (mut ours, mut theirs) = (vec![BYTE_FILL; room], vec![BYTE_FILL; room]);
-    let expected = sheet::write(numbers, &mut ours);
-    let found = library.write(numbers, &mut theirs);
-    let told = || format!("writing {numbers:?}, length {room}");
-    same((found, theirs), (expected, ours), told)
+    same(
+        lent(BYTE_FILL, room, |slice| library.write(numbers, slice)),
+        lent(BYTE_FILL, room, |slice| sheet::write(numbers, slice)),
+        || format!("writing {numbers:?}, length {room}"),
+    )
 }
 
 /// A count or a refusal, and the slice after the call.
 type Filled<T> = (Result<usize, Refusal>, Vec<T>);
 
+/// Calls with a slice of so many elements that all hold the same.
+pub fn lent<T: Clone>(
+    filling: T,
+    room: usize,
+    call: impl FnOnce(&mut [T]) -> Result<usize, Refusal>,
+) -> Filled<T> {
+    let mut slice = vec![filling; room];
+    let answer = call(&mut slice);
+    (answer, slice)
+}
+
 /// Compares two answers with their slices, and gives the elements written.
-fn same<T: PartialEq>(
+pub fn same<T: PartialEq>(
     (found, theirs): Filled<T>,
     (expected, mut ours): Filled<T>,
     told: impl Fn() -> String,
@@ -64,7 +75,7 @@ fn same<T: PartialEq>(
 
 /// Compares with slices of a length that is always enough, and where that succeeds of the exact
 /// length, one more, one less and none.
-fn several<T: PartialEq + Debug>(
+pub fn several<T: PartialEq + Debug>(
     enough: usize,
     into: impl Fn(usize) -> Result<Vec<T>, Refusal>,
 ) -> Result<Vec<T>, Refusal> {

@@ -31,6 +31,14 @@ impl Library for Proved {
         };
         strip::narrowest(sheet).map(minimum).map_err(refusal)
     }
+
+    fn read_drawing(&self, file: &[u8], numbers: &mut [u16]) -> Result<usize, Refusal> {
+        strip::read_drawing(file, numbers).map_err(refusal)
+    }
+
+    fn write_drawing(&self, numbers: &[u16], file: &mut [u8]) -> Result<usize, Refusal> {
+        strip::write_drawing(numbers, file).map_err(refusal)
+    }
 }
 
 /// A refusal of the wrapper as one of the second implementation.
