@@ -61,6 +61,26 @@ pub fn exchanged<T: Copy + PartialEq>(list: &[T]) -> Vec<Vec<T>> {
     results
 }
 
+/// A number list near a good one.
+pub fn near_list(random: &mut Random, mut numbers: Vec<u16>) -> Vec<u16> {
+    let values = [0, 1, 2, 64, 65, 512, 513, 4095, 4096, 16384, 32768, 65535];
+    for _ in 0..random.within(1..=2) {
+        let i = random.index(numbers.len());
+        match random.within(0..=5) {
+            0 => numbers.truncate(i),
+            1 => numbers.push(random.within(0..=9)),
+            2 => numbers[i] = values[random.index(values.len())],
+            3 => numbers[i] = random.within(0..=65535),
+            4 => numbers[i] = numbers[i].wrapping_add(1),
+            _ => numbers[i] = numbers[i].wrapping_sub(1),
+        }
+        if numbers.is_empty() {
+            break;
+        }
+    }
+    numbers
+}
+
 /// What a byte is changed to.
 pub fn byte_changes(byte: u8) -> Vec<u8> {
     vec![0x00, 0x7f, 0x80, 0xff, byte.wrapping_add(1), byte ^ 0x80]

@@ -1,41 +1,16 @@
 //! Reading and writing by the library and the second implementation.
 
+mod answers;
 mod library;
 
+use answers::Answers;
 use library::Proved;
-use second::refusal::Refusal;
-use strip_tests::compare::{self, grouped, scale, Library};
+use strip_tests::compare::{self, scale, Library};
 use strip_tests::document;
 use strip_tests::draft::encode;
 use strip_tests::generate;
-use strip_tests::mutation::{changed, truncated};
+use strip_tests::mutation::{changed, near_list, truncated};
 use strip_tests::random::Random;
-
-/// Counts of answers by the number of the refusal; 0 is none.
-type Answers = [usize; 9];
-
-/// Counts one more answer.
-fn count<T>(answers: &mut Answers, answer: &Result<T, Refusal>) {
-    let number = answer.as_ref().err().map_or(0, |refusal| refusal.number);
-    answers[number as usize] += 1;
-}
-
-/// Prints the counts, and checks that answers have come up this many times.
-fn check_answers(kind: &str, answers: &Answers, least: &[(usize, usize)]) {
-    let sum = answers.iter().sum();
-    let mut line = format!("compared: {} {kind}", grouped(sum));
-    for (number, &count) in answers.iter().enumerate() {
-        match (number, count) {
-            (_, 0) => continue,
-            (0, _) => line += &format!(": {} taken", grouped(count)),
-            _ => line += &format!(", {} refused {number}", grouped(count)),
-        }
-    }
-    println!("{line}");
-    for &(number, least) in least {
-        assert!(answers[number] >= least, "{number}: {}", answers[number]);
-    }
-}
 
 #[test]
 fn good_sheets_are_read_and_written_back() {
@@ -47,30 +22,9 @@ fn good_sheets_are_read_and_written_back() {
         let read = compare::read(&Proved, &bytes);
         assert_eq!(read, Ok(draft.numbers()));
         assert_eq!(compare::write(&Proved, &draft.numbers()), Ok(bytes));
-        count(&mut answers, &read);
+        answers.count(&read);
     }
-    check_answers("good sheets read and written", &answers, &[(0, 20_064)]);
-}
-
-/// A number list near that of a good sheet.
-fn near_list(random: &mut Random) -> Vec<u16> {
-    let mut numbers = generate::good(random).numbers();
-    let values = [0, 1, 2, 64, 65, 512, 513, 4095, 4096, 16384, 32768, 65535];
-    for _ in 0..random.within(1..=2) {
-        let i = random.index(numbers.len());
-        match random.within(0..=5) {
-            0 => numbers.truncate(i),
-            1 => numbers.push(random.within(0..=9)),
-            2 => numbers[i] = values[random.index(values.len())],
-            3 => numbers[i] = random.within(0..=65535),
-            4 => numbers[i] = numbers[i].wrapping_add(1),
-            _ => numbers[i] = numbers[i].wrapping_sub(1),
-        }
-        if numbers.is_empty() {
-            break;
-        }
-    }
-    numbers
+    answers.check("good sheets read and written", &[(0, 20_064)]);
 }
 
 #[test]
@@ -78,15 +32,16 @@ fn number_lists_near_good_ones_are_written() {
     let mut random = Random::new(172);
     let mut answers = Answers::default();
     for _ in 0..40_000 * scale() {
-        let numbers = near_list(&mut random);
+        let good = generate::good(&mut random).numbers();
+        let numbers = near_list(&mut random, good);
         let written = compare::write(&Proved, &numbers);
-        count(&mut answers, &written);
+        answers.count(&written);
         if let Ok(bytes) = written {
             assert_eq!(compare::read(&Proved, &bytes), Ok(numbers));
         }
     }
     let least = [(0, 4_000), (1, 4_000), (4, 8_000), (5, 500), (6, 4_000)];
-    check_answers("number lists written", &answers, &least);
+    answers.check("number lists written", &least);
 }
 
 #[test]
@@ -99,11 +54,11 @@ fn every_number_list_near_those_of_the_document_is_written() {
         lists.extend(changed(&numbers, changes));
         lists.push([&numbers[..], &[1]].concat());
         for list in lists {
-            count(&mut answers, &compare::write(&Proved, &list));
+            answers.count(&compare::write(&Proved, &list));
         }
     }
     let least = [(0, 100), (1, 100), (4, 500), (5, 5), (6, 12)];
-    check_answers("number lists near document 01's", &answers, &least);
+    answers.check("number lists near document 01's", &least);
 }
 
 #[test]
@@ -111,7 +66,8 @@ fn bytes_near_good_ones_are_read() {
     let mut random = Random::new(173);
     let mut answers = Answers::default();
     for _ in 0..40_000 * scale() {
-        let mut numbers = near_list(&mut random);
+        let good = generate::good(&mut random).numbers();
+        let mut numbers = near_list(&mut random, good);
         for n in &mut numbers {
             *n = (*n).min(16383);
         }
@@ -120,7 +76,7 @@ fn bytes_near_good_ones_are_read() {
             let i = random.index(bytes.len());
             bytes[i] = random.within(0..=255) as u8;
         }
-        count(&mut answers, &compare::read(&Proved, &bytes));
+        answers.count(&compare::read(&Proved, &bytes));
     }
     let least = [
         (0, 3_000),
@@ -131,7 +87,7 @@ fn bytes_near_good_ones_are_read() {
         (5, 2_000),
         (6, 3_000),
     ];
-    check_answers("byte strings read", &answers, &least);
+    answers.check("byte strings read", &least);
 }
 
 #[test]
@@ -143,14 +99,14 @@ fn slices_of_every_length() {
         let (numbers, bytes) = (draft.numbers(), draft.bytes());
         for length in 0..=numbers.len() + 2 {
             let read = compare::read_into(&Proved, &bytes, length);
-            count(&mut answers, &read);
+            answers.count(&read);
         }
         for length in 0..=bytes.len() + 2 {
             let written = compare::write_into(&Proved, &numbers, length);
-            count(&mut answers, &written);
+            answers.count(&written);
         }
     }
-    check_answers("slices", &answers, &[(0, 1_800), (7, 20_000)]);
+    answers.check("slices", &[(0, 1_800), (7, 20_000)]);
 }
 
 #[test]
@@ -162,8 +118,8 @@ fn inputs_and_slices_longer_than_any_sheet() {
         for length in [1, 2, 2_055, 5_122, 70_000] {
             let tail: Vec<u16> = (0..length).map(|_| random.within(0..=1)).collect();
             let numbers = [draft.numbers(), tail].concat();
-            count(&mut answers, &compare::write(&Proved, &numbers));
-            count(&mut answers, &compare::read(&Proved, &encode(&numbers)));
+            answers.count(&compare::write(&Proved, &numbers));
+            answers.count(&compare::read(&Proved, &encode(&numbers)));
         }
         let (mut numbers, mut bytes) = (vec![77; 100_000], vec![77; 100_000]);
         let read = Proved.read(&draft.bytes(), &mut numbers);
@@ -172,7 +128,7 @@ fn inputs_and_slices_longer_than_any_sheet() {
         let written = Proved.write(&draft.numbers(), &mut bytes);
         assert_eq!(written, Ok(draft.bytes().len()));
         assert!(bytes[draft.bytes().len()..].iter().all(|&byte| byte == 77));
-        count(&mut answers, &read);
+        answers.count(&read);
     }
-    check_answers("long inputs and slices", &answers, &[(0, 64), (6, 640)]);
+    answers.check("long inputs and slices", &[(0, 64), (6, 640)]);
 }
