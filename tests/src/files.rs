@@ -30,7 +30,7 @@ pub const GOOD: [(&str, &[u8], &[u16]); 4] = [
         &[1, 2, 0, 4095],
     ),
     (
-        "a place of two bytes and a distance of one",
+        "distances of 127 and 128",
         &[0x53, 0x44, 0x31, 0x01, 0x03, 0xac, 0x02, 0x7f, 0x80, 0x01],
         &[1, 3, 300, 427, 555],
     ),
