@@ -55,13 +55,14 @@ impl Group {
     }
 }
 
-/// The groups that are stored, in the order of the files: document 01's sheets and refusals, and
-/// single numbers, which the library does not export.
+/// The groups that are stored, in the order of the files: document 01's sheets and refusals, single
+/// numbers, which the library does not export, and coordinate files.
 pub fn stored() -> Vec<Group> {
     let mut groups = format::stored();
     groups.extend(check::stored());
     groups.extend(draw::stored());
     groups.extend(narrowest::stored());
+    groups.extend(coordinates::stored());
     groups
 }
 

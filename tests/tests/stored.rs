@@ -78,7 +78,7 @@ fn other_totals_places_lists_and_words_are_no_answers() {
 fn stored_files_can_be_read() {
     for file in [file("stdin"), file("stdout")] {
         assert!(file.is_ascii());
-        assert!(file.lines().count() < 400, "{}", file.lines().count());
+        assert!(file.lines().count() < 460, "{}", file.lines().count());
         assert!(file.lines().all(|line| line.len() < 320));
     }
 }
@@ -100,8 +100,8 @@ fn payloads_are_whole_elements() {
     let groups = stored();
     for [operation, first, second, payload] in lines(&groups).filter_map(parts) {
         let (before, digits) = match &operation[..] {
-            "R" | "G" | "D" | "N" => (0, 2),
-            "W" => (0, 4),
+            "R" | "G" | "D" | "N" | "F" => (0, 2),
+            "W" | "S" => (0, 4),
             "P" => (0, 8),
             "C" => (4 * hexadecimal(&first) + 8 * hexadecimal(&second), 2),
             _ => panic!("no such operation: {operation}"),
