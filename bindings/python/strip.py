@@ -1,4 +1,5 @@
-"""Path strips: read, write, draw and check sheets with the proved library, and tell their minimum width.
+"""Path strips: read, write, draw and check sheets with the proved library, tell their minimum width, and read
+and write coordinate files, which hold drawings.
 
     >>> import strip
     >>> sheet = bytes([0x53, 0x50, 0x31, 5, 2, 2, 1, 0, 1, 2, 1, 1, 1, 0, 1, 2, 1, 0])
@@ -9,12 +10,18 @@
     True
     >>> strip.narrowest(sheet)
     Narrowest(width=1, total=1)
+    >>> counts, edges = strip.sizes(strip.read(sheet))
+    >>> file = strip.write_drawing(strip.drawing_numbers(counts, drawing.places))
+    >>> file.hex(" ")
+    '53 44 31 02 02 00 01 01 00'
+    >>> strip.read_drawing(file)
+    [2, 2, 0, 1, 1, 0]
     >>> strip.draw(sheet[:2])
     Traceback (most recent call last):
     strip.Refusal: refused 1 at 2
 
-Every sheet is allowed: one that has no answer raises Refusal. A number that its type cannot hold raises
-OverflowError.
+Every sheet and every file is allowed: one that has no answer raises Refusal. A number that its type cannot hold
+raises OverflowError.
 
 The shared library is the file that STRIP_LIBRARY names; without it, the one that make builds in the repository
 of this file, and where that is not there, the one that is installed.
@@ -36,6 +43,10 @@ MAX_NUMBERS = 2559
 MAX_PLACES = 256
 # The greatest count of numbers in a certificate: one for each edge and two for each node.
 MAX_LIST = 1024
+# The greatest count of numbers in a coordinate file's number list: 1, and one for each layer and each node.
+MAX_DRAWING_NUMBERS = 321
+# No coordinate file has more bytes.
+MAX_DRAWING_BYTES = 645
 
 # The numbers of the refusals.
 INPUT_ENDED = 1
@@ -50,8 +61,8 @@ NO_WIDTH = 10
 
 
 class Refusal(Exception):
-    """Why there is no answer: the number of the refusal, and where: the offset of a byte, from 0 (in write: the
-    index of a number)."""
+    """Why there is no answer: the number of the refusal, and where: the offset of a byte, from 0 (in write and
+    write_drawing: the index of a number)."""
 
     def __init__(self, number: int, offset: int):
         super().__init__(number, offset)
@@ -114,6 +125,30 @@ def narrowest(sheet: bytes) -> Narrowest:
     return Narrowest(width, total)
 
 
+def read_drawing(file: bytes) -> List[int]:
+    """The number list of a coordinate file: the count of layers, then for each layer its count of nodes and its
+    places."""
+    numbers = (_U16 * MAX_DRAWING_NUMBERS)()
+    count = _call("strip_read_drawing", _bytes(file), numbers)
+    return numbers[:count]
+
+
+def write_drawing(numbers: Iterable[int]) -> bytes:
+    """The coordinate file of such a number list."""
+    file = (_U8 * MAX_DRAWING_BYTES)()
+    count = _call("strip_write_drawing", _numbers(numbers), file)
+    return bytes(file[:count])
+
+
+def drawing_numbers(counts: List[int], places: List[int]) -> List[int]:
+    """The number list of a drawing's coordinate file, by the count of nodes in each layer and all places."""
+    numbers, at = [len(counts)], 0
+    for count in counts:
+        numbers += [count, *places[at : at + count]]
+        at += count
+    return numbers
+
+
 def sizes(numbers: List[int]) -> Tuple[List[int], int]:
     """How many nodes each layer of a sheet has, and how many edges the sheet has, by its number list."""
     counts, at = [], 2
@@ -133,12 +168,14 @@ _FUNCTIONS = {
     "strip_draw": (_U8, _U16, _I32),
     "strip_check": (_U8, _U16, _I32),
     "strip_narrowest": (_U8,),
+    "strip_read_drawing": (_U8, _U16),
+    "strip_write_drawing": (_U16, _U8),
 }
 
 
-def _bytes(sheet: bytes) -> ctypes.Array:
-    """A slice of a sheet's bytes."""
-    return (_U8 * len(sheet)).from_buffer_copy(sheet)
+def _bytes(source: bytes) -> ctypes.Array:
+    """A slice of the bytes of a sheet or a coordinate file."""
+    return (_U8 * len(source)).from_buffer_copy(source)
 
 
 def _numbers(numbers: Iterable[int]) -> ctypes.Array:

@@ -14,6 +14,10 @@ NUMBERS = [5, 2, 2, 1, 0, 1, 2, 1, 1, 1, 0, 1, 2, 1, 0]
 PLACES = [0, 1, 0]
 CERTIFICATE = [1, -1, 0, 1, 0, 0, 0, 0]
 
+# The coordinate file of its drawing, with its number list.
+FILE = bytes([0x53, 0x44, 0x31, 2, 2, 0, 1, 1, 0])
+DRAWING = [2, 2, 0, 1, 1, 0]
+
 
 def load_tests(loader, tests, pattern):
     """The examples of the module's text are tests too."""
@@ -22,7 +26,7 @@ def load_tests(loader, tests, pattern):
 
 
 class Answers(unittest.TestCase):
-    """What the five functions return."""
+    """What the functions return."""
 
     def test_read(self):
         self.assertEqual(strip.read(SHEET), NUMBERS)
@@ -52,6 +56,31 @@ class Answers(unittest.TestCase):
         least = [4095, 2] + [2, 4095, 0] * 2 + [1, 1, 1, 2, 0]
         self.assertEqual(strip.narrowest(strip.write(least)), strip.Narrowest(4095, 4095))
 
+    def test_read_drawing(self):
+        self.assertEqual(strip.read_drawing(FILE), DRAWING)
+        self.assertEqual(strip.read_drawing(b"SD1\x01\x03\x0a\x05\x80\x01"), [1, 3, 10, 15, 143])
+        self.assertEqual(strip.read_drawing(b"SD1\x01\x02\x00\xff\x1f"), [1, 2, 0, 4095])
+
+    def test_write_drawing(self):
+        self.assertEqual(strip.write_drawing(DRAWING), FILE)
+        self.assertEqual(strip.write_drawing(iter([1, 3, 10, 15, 143])), b"SD1\x01\x03\x0a\x05\x80\x01")
+        self.assertEqual(strip.write_drawing(bytes([1, 1, 0])), b"SD1\x01\x01\x00")
+
+    def test_drawing_numbers(self):
+        self.assertEqual(strip.drawing_numbers([2, 1], PLACES), DRAWING)
+        self.assertEqual(strip.drawing_numbers([1, 3], [7, 2, 4, 8]), [2, 1, 7, 3, 2, 4, 8])
+        counts, _ = strip.sizes(strip.read(SHEET))
+        self.assertEqual(strip.drawing_numbers(counts, strip.draw(SHEET).places), DRAWING)
+
+    def test_longest_file(self):
+        """As many layers and nodes as a file can have, with places up to the greatest."""
+        places = [place for at in range(64) for place in (at, 1000, 2000, 4032 + at)]
+        numbers = strip.drawing_numbers([4] * 64, places)
+        self.assertEqual(len(numbers), strip.MAX_DRAWING_NUMBERS)
+        self.assertEqual(strip.read_drawing(strip.write_drawing(numbers)), numbers)
+        layer = strip.drawing_numbers([64], list(range(4032, 4096)))
+        self.assertEqual(strip.write_drawing(layer), b"SD1\x01\x40\xc0\x1f" + b"\x01" * 63)
+
     def test_longest(self):
         """As many nodes and edges as a sheet can have."""
         layer = [64] + [1, 0] * 63
@@ -68,6 +97,7 @@ class Answers(unittest.TestCase):
         for kind in (bytearray, memoryview):
             self.assertEqual(strip.draw(kind(SHEET)).places, PLACES)
             self.assertEqual(strip.narrowest(kind(SHEET)), (1, 1))
+            self.assertEqual(strip.read_drawing(kind(FILE)), DRAWING)
 
 
 class Refusals(unittest.TestCase):
@@ -97,6 +127,28 @@ class Refusals(unittest.TestCase):
         self.refused(strip.INPUT_ENDED, 2, strip.write, bytes([5, 1]))
         self.refused(strip.SOMETHING_FOLLOWS, 15, strip.write, NUMBERS + [0])
 
+    def test_files(self):
+        for call in (strip.read, strip.draw, strip.narrowest):
+            self.refused(strip.NOT_A_SHEET, 0, call, FILE)
+        self.refused(strip.NOT_A_SHEET, 0, strip.read_drawing, SHEET)
+        for file in (b"", b"S", b"SD", b"XX", b"SD1\x02\x01\x00", b"SD1\x01\x02\x00\x80"):
+            self.refused(strip.INPUT_ENDED, len(file), strip.read_drawing, file)
+        self.refused(strip.NUMBER_FORM, 6, strip.read_drawing, b"SD1\x01\x02\x00\x81\x00")
+        self.refused(strip.OUTSIDE_LIMITS, 7, strip.read_drawing, b"SD1\x01\x02\xff\x1f\x01")
+        self.refused(strip.OUTSIDE_LIMITS, 6, strip.read_drawing, b"SD1\x01\x02\x00\x00")
+        self.refused(strip.OUTSIDE_LIMITS, 6, strip.read_drawing, b"SD1\x01\x02\x00\x80\x20")
+        self.refused(strip.SOMETHING_FOLLOWS, 9, strip.read_drawing, FILE + b"\n")
+
+    def test_drawings(self):
+        self.refused(strip.INPUT_ENDED, 0, strip.write_drawing, [])
+        self.refused(strip.INPUT_ENDED, 3, strip.write_drawing, [1, 2, 5])
+        self.refused(strip.OUTSIDE_LIMITS, 0, strip.write_drawing, [65])
+        self.refused(strip.OUTSIDE_LIMITS, 3, strip.write_drawing, [1, 2, 5, 5])
+        self.refused(strip.OUTSIDE_LIMITS, 2, strip.write_drawing, [1, 1, 4096])
+        nodes = strip.drawing_numbers([64] * 4, list(range(64)) * 4)[1:]
+        self.refused(strip.OUTSIDE_LIMITS, 261, strip.write_drawing, [5] + nodes + [1, 0])
+        self.refused(strip.SOMETHING_FOLLOWS, 6, strip.write_drawing, DRAWING + [0])
+
     def test_slices(self):
         self.refused(strip.SLICE_SHORT, 0, strip.check, SHEET, PLACES[:2], CERTIFICATE)
         self.refused(strip.SLICE_SHORT, 0, strip.check, SHEET, PLACES, CERTIFICATE[:7])
@@ -104,9 +156,11 @@ class Refusals(unittest.TestCase):
     def test_types(self):
         for numbers in ([-1], [65536]):
             self.assertRaises(OverflowError, strip.write, numbers)
+            self.assertRaises(OverflowError, strip.write_drawing, numbers)
             self.assertRaises(OverflowError, strip.check, SHEET, numbers, CERTIFICATE)
         self.assertRaises(OverflowError, strip.check, SHEET, PLACES, [2**31])
         self.assertRaises(TypeError, strip.draw, "SP1")
+        self.assertRaises(TypeError, strip.read_drawing, "SD1")
         self.assertRaises(TypeError, strip.write, [0.5])
 
 
