@@ -42,12 +42,18 @@ static const uint16_t first_numbers[] = {5, 2, 2, 1, 0, 1, 2, 1, 1, 1, 0, 1, 2, 
 static const uint16_t first_places[] = {0, 1, 0};
 static const int32_t first_list[] = {1, -1, 0, 1, 0, 0, 0, 0};
 
-/* Room for the answers to any sheet. */
+/* The coordinate file of that drawing, in bytes and in numbers. */
+static const uint8_t first_file[] = {0x53, 0x44, 0x31, 2, 2, 0, 1, 1, 0};
+static const uint16_t first_drawing[] = {2, 2, 0, 1, 1, 0};
+
+/* Room for the answers to any sheet and any coordinate file. */
 struct room {
     uint8_t sheet[STRIP_MAX_SHEET_BYTES];
     uint16_t numbers[STRIP_MAX_NUMBERS];
     uint16_t places[STRIP_MAX_PLACES];
     int32_t list[STRIP_MAX_LIST];
+    uint8_t file[STRIP_MAX_DRAWING_BYTES];
+    uint16_t drawing[STRIP_MAX_DRAWING_NUMBERS];
 };
 
 /* The room that the calls write to, and what it is before a call. */
@@ -69,7 +75,17 @@ static uint64_t draw(const uint8_t *sheet, size_t sheet_len) {
     return strip_draw(sheet, sheet_len, room.places, STRIP_MAX_PLACES, room.list, STRIP_MAX_LIST);
 }
 
-/* Each function answers the first sheet, and writes no element behind the answer. */
+/* Reads a coordinate file into the room. */
+static uint64_t read_drawing(const uint8_t *file, size_t file_len) {
+    return strip_read_drawing(file, file_len, room.drawing, STRIP_MAX_DRAWING_NUMBERS);
+}
+
+/* Writes a coordinate file into the room. */
+static uint64_t write_drawing(const uint16_t *drawing, size_t drawing_len) {
+    return strip_write_drawing(drawing, drawing_len, room.file, STRIP_MAX_DRAWING_BYTES);
+}
+
+/* Each function answers the first sheet or its file, and writes no element behind the answer. */
 static void answers(void) {
     paint();
     assert(strip_read(first, COUNT(first), room.numbers, STRIP_MAX_NUMBERS) == 15);
@@ -87,6 +103,12 @@ static void answers(void) {
     room.places[0] = 1;
     assert(strip_check(first, COUNT(first), room.places, 3, room.list, 8) == 0);
     NARROWEST(strip_narrowest(first, COUNT(first)), 1, 1);
+    assert(read_drawing(first_file, COUNT(first_file)) == 6);
+    assert(memcmp(room.drawing, first_drawing, sizeof first_drawing) == 0);
+    assert(room.drawing[6] == 0xa5a5);
+    assert(write_drawing(first_drawing, 6) == 9);
+    assert(memcmp(room.file, first_file, sizeof first_file) == 0);
+    assert(room.file[9] == 0xa5);
 }
 
 /* The minimum width of a sheet, whatever its own width is, and the least total there. */
@@ -105,6 +127,29 @@ static void narrowest(void) {
     NARROWEST(strip_narrowest(stair, COUNT(stair)), 2, 1);
     length = strip_write(widest, COUNT(widest), room.sheet, STRIP_MAX_SHEET_BYTES);
     NARROWEST(strip_narrowest(room.sheet, length), 4095, 8190);
+}
+
+/* Checks that a coordinate file has this number list, and the list this file. */
+static void correspond(const uint8_t *file, size_t length, const uint16_t *drawing, size_t count) {
+    assert(read_drawing(file, length) == count);
+    assert(memcmp(room.drawing, drawing, count * sizeof *drawing) == 0);
+    assert(write_drawing(drawing, count) == length);
+    assert(memcmp(room.file, file, length) == 0);
+}
+
+/* Coordinate files and their lists: the smallest one, places and distances, the greatest place. */
+static void coordinate_files(void) {
+    const uint8_t smallest[] = {0x53, 0x44, 0x31, 1, 1, 0};
+    const uint16_t smallest_drawing[] = {1, 1, 0};
+    const uint8_t distances[] = {0x53, 0x44, 0x31, 1, 4, 10, 5, 0x80, 1, 1};
+    const uint16_t places[] = {1, 4, 10, 15, 143, 144};
+    const uint8_t greatest[] = {0x53, 0x44, 0x31, 2, 2, 0, 0xff, 0x1f, 1, 0xff, 0x1f};
+    const uint16_t greatest_drawing[] = {2, 2, 0, 4095, 1, 4095};
+
+    correspond(first_file, COUNT(first_file), first_drawing, COUNT(first_drawing));
+    correspond(smallest, COUNT(smallest), smallest_drawing, COUNT(smallest_drawing));
+    correspond(distances, COUNT(distances), places, COUNT(places));
+    correspond(greatest, COUNT(greatest), greatest_drawing, COUNT(greatest_drawing));
 }
 
 /* Document 01's example of each refusal, by name and by number. */
@@ -136,6 +181,43 @@ static void refusals(void) {
     assert(STRIP_NUMBER_FORM == 3 && STRIP_OUTSIDE_LIMITS == 4 && STRIP_SEPARATIONS_CROSSED == 5);
     assert(STRIP_SOMETHING_FOLLOWS == 6 && STRIP_SLICE_SHORT == 7 && STRIP_NO_DRAWING == 8);
     assert(STRIP_NO_WIDTH == 10);
+}
+
+/* Each refusal of a coordinate file and of its number list; sheets and files are not mixed up. */
+static void file_refusals(void) {
+    const uint8_t ended[] = {0x53, 0x44};
+    const uint8_t cut_off[] = {0x53, 0x44, 0x31, 1, 2, 0, 0x80};
+    const uint8_t form[] = {0x53, 0x44, 0x31, 1, 2, 0, 0x81, 0x00};
+    const uint8_t passes[] = {0x53, 0x44, 0x31, 1, 2, 0xff, 0x1f, 1};
+    const uint8_t zero[] = {0x53, 0x44, 0x31, 1, 2, 0, 0};
+    const uint8_t large[] = {0x53, 0x44, 0x31, 1, 2, 0, 0x80, 0x20};
+    const uint8_t follows[] = {0x53, 0x44, 0x31, 1, 1, 0, 0};
+    const uint16_t short_list[] = {1, 2, 5}, not_right[] = {1, 2, 5, 5}, above[] = {1, 1, 4096};
+    const uint16_t too_long[] = {1, 1, 0, 7};
+
+    paint();
+    REFUSED(read_drawing(ended, COUNT(ended)), STRIP_INPUT_ENDED, 2);
+    REFUSED(read_drawing(cut_off, COUNT(cut_off)), STRIP_INPUT_ENDED, 7);
+    REFUSED(read_drawing(first, COUNT(first)), STRIP_NOT_A_SHEET, 0);
+    REFUSED(strip_read(first_file, COUNT(first_file), room.numbers, STRIP_MAX_NUMBERS),
+            STRIP_NOT_A_SHEET, 0);
+    REFUSED(strip_check(first_file, COUNT(first_file), first_places, 3, first_list, 8),
+            STRIP_NOT_A_SHEET, 0);
+    BAD_SHEET(first_file, STRIP_NOT_A_SHEET, 0);
+    REFUSED(read_drawing(form, COUNT(form)), STRIP_NUMBER_FORM, 6);
+    REFUSED(read_drawing(passes, COUNT(passes)), STRIP_OUTSIDE_LIMITS, 7);
+    REFUSED(read_drawing(zero, COUNT(zero)), STRIP_OUTSIDE_LIMITS, 6);
+    REFUSED(read_drawing(large, COUNT(large)), STRIP_OUTSIDE_LIMITS, 6);
+    REFUSED(read_drawing(follows, COUNT(follows)), STRIP_SOMETHING_FOLLOWS, 6);
+    REFUSED(strip_read_drawing(follows, COUNT(follows), NULL, 0), STRIP_SOMETHING_FOLLOWS, 6);
+    REFUSED(strip_read_drawing(first_file, 9, room.drawing, 5), STRIP_SLICE_SHORT, 0);
+    REFUSED(write_drawing(short_list, COUNT(short_list)), STRIP_INPUT_ENDED, 3);
+    REFUSED(write_drawing(not_right, COUNT(not_right)), STRIP_OUTSIDE_LIMITS, 3);
+    REFUSED(write_drawing(above, COUNT(above)), STRIP_OUTSIDE_LIMITS, 2);
+    REFUSED(write_drawing(too_long, COUNT(too_long)), STRIP_SOMETHING_FOLLOWS, 3);
+    REFUSED(strip_write_drawing(too_long, COUNT(too_long), NULL, 0), STRIP_SOMETHING_FOLLOWS, 3);
+    REFUSED(strip_write_drawing(first_drawing, 6, room.file, 8), STRIP_SLICE_SHORT, 0);
+    assert(untouched());
 }
 
 /* The parts of an answer: 16 bits, 16 bits and 32 bits. */
@@ -170,6 +252,12 @@ static void empty_slices(void) {
     REFUSED(strip_check(first, length, NULL, 0, first_list, 8), 7, 0);
     REFUSED(strip_check(first, length, first_places, 3, NULL, 0), 7, 0);
     REFUSED(strip_narrowest(NULL, 0), 1, 0);
+    REFUSED(strip_read_drawing(NULL, 0, NULL, 0), 1, 0);
+    REFUSED(read_drawing(NULL, 0), 1, 0);
+    REFUSED(strip_read_drawing(first_file, COUNT(first_file), NULL, 0), 7, 0);
+    REFUSED(strip_write_drawing(NULL, 0, NULL, 0), 1, 0);
+    REFUSED(write_drawing(NULL, 0), 1, 0);
+    REFUSED(strip_write_drawing(first_drawing, COUNT(first_drawing), NULL, 0), 7, 0);
     assert(untouched());
 }
 
@@ -224,6 +312,36 @@ static void greatest_sizes(void) {
                        STRIP_MAX_LIST) == 1);
     answer = strip_narrowest(room.sheet, length);
     assert(strip_refusal(answer) == STRIP_OK && strip_second(answer) == 126);
+}
+
+/* A coordinate file of full size, 64 layers of 4 nodes, needs slices of just its own lengths. */
+static void greatest_file(void) {
+    static uint16_t drawing[STRIP_MAX_DRAWING_NUMBERS];
+    size_t count = 0, length;
+    uint64_t answer;
+    uint16_t layer, node;
+
+    drawing[count++] = 64;
+    for (layer = 0; layer < 64; layer++) {
+        drawing[count++] = 4;
+        for (node = 0; node < 4; node++)
+            drawing[count++] = 4095 - (3 - node) * (layer + 1000);
+    }
+    assert(count == STRIP_MAX_DRAWING_NUMBERS);
+    assert(STRIP_MAX_DRAWING_BYTES == 3 + 2 * STRIP_MAX_DRAWING_NUMBERS);
+    answer = write_drawing(drawing, count);
+    assert(strip_refusal(answer) == STRIP_OK);
+    length = strip_value(answer);
+    REFUSED(strip_write_drawing(drawing, count, room.file, length - 1), STRIP_SLICE_SHORT, 0);
+    REFUSED(strip_read_drawing(room.file, length, room.drawing, STRIP_MAX_DRAWING_NUMBERS - 1),
+            STRIP_SLICE_SHORT, 0);
+    assert(read_drawing(room.file, length) == STRIP_MAX_DRAWING_NUMBERS);
+    assert(memcmp(room.drawing, drawing, sizeof drawing) == 0);
+    /* the last of 64 counts, 5 instead of 4, passes the 256 nodes */
+    drawing[count - 5] = 5;
+    REFUSED(write_drawing(drawing, count), STRIP_OUTSIDE_LIMITS, count - 5);
+    room.file[length - 9] = 5;
+    REFUSED(read_drawing(room.file, length), STRIP_OUTSIDE_LIMITS, length - 9);
 }
 
 /* A sheet that several threads draw, and what they must find. */
@@ -292,10 +410,13 @@ static void threads(void) {
 int main(void) {
     answers();
     narrowest();
+    coordinate_files();
     refusals();
+    file_refusals();
     parts();
     empty_slices();
     greatest_sizes();
+    greatest_file();
     threads();
     puts("all as documents 01 and 02 say");
     return 0;
