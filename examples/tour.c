@@ -1,7 +1,8 @@
 /*
- * All five functions: reads a sheet, tells its minimum width, writes it with another width, draws
- * that, and has the drawing checked. It prints the minimum width with the least total there, then
- * the total and what the checker says.
+ * All seven functions: reads a sheet, tells its minimum width, writes it with another width, draws
+ * that, has the drawing checked, makes a coordinate file of it, and reads that. It prints the
+ * minimum width with the least total there, the total, what the checker says, and then how long the
+ * coordinate file is.
  *
  * Exit status: 0 drawn and accepted, 1 refused or not accepted, 2 the file cannot be read.
  */
@@ -18,9 +19,26 @@ static int refused(const char *call, uint64_t answer) {
     return 1;
 }
 
+/* Lists the numbers of a coordinate file, from the numbers of a sheet and the places of a drawing:
+ * the count of layers, then for each layer its count of nodes and its places. Answers how many. */
+static size_t list_drawing(const uint16_t *numbers, const uint16_t *places, uint16_t *drawing) {
+    size_t count = 0, at = 2;
+    int layer, position;
+
+    drawing[count++] = numbers[1];
+    for (layer = 1; layer <= numbers[1]; layer++) {
+        drawing[count++] = numbers[at];
+        for (position = 1; position <= numbers[at]; position++)
+            drawing[count++] = *places++;
+        at += 2u * numbers[at] - 1;
+    }
+    return count;
+}
+
 int main(int argc, char **argv) {
-    uint8_t bytes[STRIP_MAX_SHEET_BYTES + 1];
+    uint8_t bytes[STRIP_MAX_SHEET_BYTES + 1], drill[STRIP_MAX_DRAWING_BYTES];
     uint16_t numbers[STRIP_MAX_NUMBERS], places[STRIP_MAX_PLACES];
+    uint16_t drawing[STRIP_MAX_DRAWING_NUMBERS];
     int32_t list[STRIP_MAX_LIST];
     size_t length, count;
     unsigned long width;
@@ -71,5 +89,21 @@ int main(int argc, char **argv) {
     if (refused("check", answer))
         return 1;
     printf("checked: %s\n", strip_value(answer) == 1 ? "yes" : "no");
-    return strip_value(answer) == 1 ? 0 : 1;
+    if (strip_value(answer) != 1)
+        return 1;
+
+    /* The drawing as a file, for a drill that takes places. */
+    count = list_drawing(numbers, places, drawing);
+    answer = strip_write_drawing(drawing, count, drill, sizeof drill);
+    if (refused("write_drawing", answer))
+        return 1;
+    length = strip_value(answer);
+
+    /* What is read there: the same counts and places. */
+    answer = strip_read_drawing(drill, length, drawing, STRIP_MAX_DRAWING_NUMBERS);
+    if (refused("read_drawing", answer))
+        return 1;
+    printf("file: %lu bytes, %lu numbers\n", (unsigned long)length,
+           (unsigned long)strip_value(answer));
+    return 0;
 }

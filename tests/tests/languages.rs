@@ -146,7 +146,8 @@ fn tour_calls_all_functions() {
         for width in [1, 2, 3, 4095] {
             let text = printed(&stair(width, PLAIN).bytes());
             let total = text.lines().next().expect("a total");
-            let told = format!("{narrowest}{total}\nchecked: yes\n");
+            let file = "file: 13 bytes, 10 numbers\n";
+            let told = format!("{narrowest}{total}\nchecked: yes\n{file}");
             check_ends(&mut tour(&width.to_string()), 0, &told, 0);
         }
         for width in ["4096", "65535", "65536", "99999999999999999999"] {
