@@ -26,6 +26,10 @@ static size_t numbers_len;
 static uint8_t written[STRIP_MAX_SHEET_BYTES];
 static uint16_t places[STRIP_MAX_PLACES];
 static int32_t list[STRIP_MAX_LIST];
+static uint16_t drawing[STRIP_MAX_DRAWING_NUMBERS];
+static size_t drawing_len;
+static uint8_t file[STRIP_MAX_DRAWING_BYTES];
+static size_t file_len;
 static uint64_t answer;
 
 /* Reads the sheet. */
@@ -53,6 +57,31 @@ static void call_narrowest(void) {
     answer = strip_narrowest(sheet, sheet_len);
 }
 
+/* Writes the coordinate file of the drawing. */
+static void call_write_drawing(void) {
+    answer = strip_write_drawing(drawing, drawing_len, file, STRIP_MAX_DRAWING_BYTES);
+}
+
+/* Reads the coordinate file. */
+static void call_read_drawing(void) {
+    answer = strip_read_drawing(file, file_len, drawing, STRIP_MAX_DRAWING_NUMBERS);
+}
+
+/* Lists the numbers of the drawing's coordinate file: the count of layers, each with its places. */
+static void list_drawing(void) {
+    size_t at = 2, node = 0;
+    int layer, position;
+
+    drawing_len = 0;
+    drawing[drawing_len++] = numbers[1];
+    for (layer = 0; layer < numbers[1]; layer++) {
+        drawing[drawing_len++] = numbers[at];
+        for (position = 0; position < numbers[at]; position++)
+            drawing[drawing_len++] = places[node++];
+        at += 2u * numbers[at] - 1;
+    }
+}
+
 /* How many bytes of stack a call uses. */
 static size_t use(void (*call)(void)) {
     static unsigned char stack[ROOM];
@@ -73,10 +102,10 @@ static size_t use(void (*call)(void)) {
 
 /* Reads a sheet from a file. */
 static void load(const char *path) {
-    FILE *file = fopen(path, "rb");
-    assert(file != NULL);
-    sheet_len = fread(sheet, 1, sizeof sheet, file);
-    assert(ferror(file) == 0 && fclose(file) == 0);
+    FILE *stream = fopen(path, "rb");
+    assert(stream != NULL);
+    sheet_len = fread(sheet, 1, sizeof sheet, stream);
+    assert(ferror(stream) == 0 && fclose(stream) == 0);
 }
 
 /* Runs a call on a painted stack, and keeps the greatest use. Gives the value of the answer. */
@@ -89,7 +118,7 @@ static uint32_t measure(void (*call)(void), size_t *greatest) {
     return strip_value(answer);
 }
 
-/* Runs all five functions on the sheet. */
+/* Runs all seven functions on the sheet. */
 static void *run_all(void *nothing) {
     call_read();
     assert(strip_refusal(answer) == STRIP_OK);
@@ -102,10 +131,16 @@ static void *run_all(void *nothing) {
     assert(answer == 1);
     call_narrowest();
     assert(strip_refusal(answer) == STRIP_OK);
+    list_drawing();
+    call_write_drawing();
+    assert(strip_refusal(answer) == STRIP_OK);
+    file_len = strip_value(answer);
+    call_read_drawing();
+    assert(answer == drawing_len);
     return nothing;
 }
 
-/* Runs all five functions on a thread whose stack is no larger than strip.h asks for. */
+/* Runs all seven functions on a thread whose stack is no larger than strip.h asks for. */
 static void run_on_thread(void) {
     pthread_attr_t attributes;
     pthread_t thread;
@@ -120,6 +155,7 @@ static void run_on_thread(void) {
 /* Takes the paths of sheets that have drawings. */
 int main(int count, char **paths) {
     size_t read = 0, write = 0, draw = 0, check = 0, narrowest = 0;
+    size_t read_drawing = 0, write_drawing = 0;
     int i;
 
     for (i = 1; i < count; i++) {
@@ -129,9 +165,13 @@ int main(int count, char **paths) {
         measure(call_draw, &draw);
         assert(measure(call_check, &check) == 1);
         measure(call_narrowest, &narrowest);
+        list_drawing();
+        file_len = measure(call_write_drawing, &write_drawing);
+        assert(measure(call_read_drawing, &read_drawing) == drawing_len);
         run_on_thread();
     }
     printf("read %zu\nwrite %zu\ndraw %zu\ncheck %zu\n", read, write, draw, check);
     printf("narrowest %zu\n", narrowest);
+    printf("read_drawing %zu\nwrite_drawing %zu\n", read_drawing, write_drawing);
     return 0;
 }
