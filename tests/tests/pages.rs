@@ -176,26 +176,74 @@ fn bytes(text: &str) -> Vec<u8> {
     text.split_whitespace().map(byte).collect()
 }
 
+/// A list of numbers as the pages print it.
+fn listed(numbers: &[u16]) -> String {
+    let numbers: Vec<String> = numbers.iter().map(u16::to_string).collect();
+    numbers.join(", ")
+}
+
+/// The bytes of each dump of a page, whose lines have the offset in front and tell what is there.
+fn dumps(page: &str) -> Vec<Vec<u8>> {
+    let dump = |dump: &str| {
+        let mut found = Vec::new();
+        for line in dump.lines().take_while(|line| !line.is_empty()) {
+            let (offset, line) = line.trim().split_once("  ").expect("an offset");
+            assert_eq!(offset, found.len().to_string());
+            let (part, _) = line.split_once("  ").expect("bytes and what they are");
+            found.extend(bytes(part));
+        }
+        found
+    };
+    page.split("    offset  bytes\n")
+        .skip(1)
+        .map(dump)
+        .collect()
+}
+
 #[test]
 fn first_sheet_of_the_format_is_the_example() {
     let page = text(Path::new("docs/FORMAT.md"));
     let sheet = fs::read(root().join("examples/first.sheet")).expect("a sheet");
-    let dump = page
-        .lines()
-        .skip_while(|line| !line.starts_with("    offset  bytes"));
-    let mut found = Vec::new();
-    for line in dump.skip(1).take_while(|line| !line.is_empty()) {
-        let (offset, line) = line.trim().split_once("  ").expect("an offset");
-        assert_eq!(offset, found.len().to_string());
-        let (part, _) = line.split_once("  ").expect("bytes and what they are");
-        found.extend(bytes(part));
-    }
-    assert_eq!(found, sheet);
+    assert_eq!(dumps(&page)[0], sheet);
     let mut numbers = [0; strip::MAX_NUMBERS];
     let count = strip::read(&sheet, &mut numbers).expect("a good sheet");
-    let list = numbers[..count]
-        .iter()
-        .map(u16::to_string)
-        .collect::<Vec<_>>();
-    assert!(page.contains(&format!("its number list is {}:", list.join(", "))));
+    let list = listed(&numbers[..count]);
+    assert!(page.contains(&format!("its number list is {list}:")));
+}
+
+#[test]
+fn first_coordinate_file_of_the_format_is_that_of_the_drawing() {
+    let page = text(Path::new("docs/FORMAT.md"));
+    let sheet = fs::read(root().join("examples/first.sheet")).expect("a sheet");
+    let (mut places, mut list) = ([0; strip::MAX_PLACES], [0; strip::MAX_LIST]);
+    strip::draw(&sheet, &mut places, &mut list).expect("a drawing");
+    let drawing = [2, 2, places[0], places[1], 1, places[2]];
+    let mut file = [0; strip::MAX_DRAWING_BYTES];
+    let length = strip::write_drawing(&drawing, &mut file).expect("a good list");
+    assert_eq!(dumps(&page)[1], file[..length]);
+    assert_eq!(dumps(&page).len(), 2);
+    let list = listed(&drawing);
+    assert!(page.contains(&format!(
+        "has {length} bytes, and its number list is {list}:"
+    )));
+}
+
+#[test]
+fn coordinate_files_of_the_format_have_the_lists_that_it_says() {
+    let page = text(Path::new("docs/FORMAT.md"));
+    let lines: Vec<&str> = between(&page, "- `53 44 31 ", "\n").collect();
+    assert_eq!(lines.len(), 4);
+    for line in lines {
+        let (rest, said) = line.split_once("` is ").expect("bytes and their list");
+        let file = [bytes("53 44 31"), bytes(rest)].concat();
+        let mut numbers = [0; strip::MAX_DRAWING_NUMBERS];
+        let count = strip::read_drawing(&file, &mut numbers).expect("a good file");
+        let list = listed(&numbers[..count]);
+        let end = said.strip_prefix(&list).expect(&list);
+        assert!(end.starts_with(['.', ':']), "{line}");
+        let mut written = [0; strip::MAX_DRAWING_BYTES];
+        let length = strip::write_drawing(&numbers[..count], &mut written);
+        assert_eq!(length, Ok(file.len()));
+        assert_eq!(written[..file.len()], file);
+    }
 }
