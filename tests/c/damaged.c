@@ -1,12 +1,12 @@
 /*
- * Calls the five functions of the library on sheets and number lists from a file, each slice in a
- * block of memory of exactly its size, and prints every answer.
+ * Calls the seven functions of the library on sheets, coordinate files and number lists, each slice
+ * in a block of memory of exactly its size, and prints every answer.
  *
  *     damaged PLACEMENT FAULT FILE
  *
  * PLACEMENT says where the blocks are: `heap`, with contents that are not initialised; or `before`
  * and `behind` a page that nobody may touch. FAULT is `none` or a deliberate fault: with `read` and
- * `write` the length of the sheet or of the numbers is given as one more than it is; with
+ * `write` both readers get the length of the bytes or of the numbers as one more than it is; with
  * `undefined` the checker gets contents that nobody wrote.
  */
 #define _DEFAULT_SOURCE
@@ -19,8 +19,12 @@
 /* The size of a page, and what blocks beside a page are filled with. */
 enum { PAGE = 4096, FILLING = 0xa5 };
 
-/* The kinds of an item. */
-enum { SHEET = 0, LIST = 1 };
+/* The kinds of an item: a sheet, the numbers of one, a coordinate file, the numbers of one. */
+enum { SHEET = 0, NUMBERS = 1, COORDINATES = 2, COORDINATE_NUMBERS = 3 };
+
+/* A function that reads numbers from bytes, and one that writes bytes from numbers. */
+typedef uint64_t reader(const uint8_t *, size_t, uint16_t *, size_t);
+typedef uint64_t writer(const uint16_t *, size_t, uint8_t *, size_t);
 
 /* A block of memory, and the pages around it where it is not on the heap. */
 struct block {
@@ -37,7 +41,7 @@ struct item {
     uint32_t numbers;
     uint32_t places;
     uint32_t list;
-    uint32_t sheet;
+    uint32_t bytes;
 };
 
 /* Where blocks are. */
@@ -124,27 +128,31 @@ static void show(const char *name, uint64_t answer, struct block written, size_t
     check_kept(written, size);
 }
 
-/* Reads a sheet into a slice that is longer than needed by `more`. */
-static void try_read(const struct item *item, const void *bytes, long more) {
-    size_t length = item->numbers + more;
-    struct block sheet = copy_of(bytes, item->size);
-    struct block numbers = take(2 * length);
-    uint64_t answer =
-        strip_read(sheet.data, item->size + read_fault, numbers.data, length + write_fault);
-    show("read", answer, numbers, 2 * count_in(answer));
-    give_back(numbers);
-    give_back(sheet);
+/* Reads into slices of just the length needed, one element shorter, and one longer. */
+static void try_read(const char *name, reader read, const struct item *item, const void *bytes) {
+    for (long more = -1; more <= 1; more++) {
+        size_t length = item->numbers + more;
+        struct block source = copy_of(bytes, item->size);
+        struct block numbers = take(2 * length);
+        uint64_t answer =
+            read(source.data, item->size + read_fault, numbers.data, length + write_fault);
+        show(name, answer, numbers, 2 * count_in(answer));
+        give_back(numbers);
+        give_back(source);
+    }
 }
 
-/* Writes a number list into a slice that is longer than needed by `more`. */
-static void try_write(const struct item *item, const void *bytes, long more) {
-    size_t length = item->sheet + more;
-    struct block numbers = copy_of(bytes, item->size);
-    struct block sheet = take(length);
-    uint64_t answer = strip_write(numbers.data, item->size / 2, sheet.data, length);
-    show("write", answer, sheet, count_in(answer));
-    give_back(sheet);
-    give_back(numbers);
+/* Writes into slices of the same three lengths. */
+static void try_write(const char *name, writer write, const struct item *item, const void *bytes) {
+    for (long more = -1; more <= 1; more++) {
+        size_t length = item->bytes + more;
+        struct block numbers = copy_of(bytes, item->size);
+        struct block written = take(length);
+        uint64_t answer = write(numbers.data, item->size / 2, written.data, length);
+        show(name, answer, written, count_in(answer));
+        give_back(written);
+        give_back(numbers);
+    }
 }
 
 /* Draws a sheet into slices that are longer than needed, and has the checker look at them. A refusal
@@ -192,15 +200,9 @@ static void try_narrowest(const struct item *item, const void *bytes) {
     give_back(sheet);
 }
 
-/* Makes all calls for an item. */
-static void try_item(const struct item *item, const void *bytes) {
-    if (item->kind == LIST) {
-        for (long more = -1; more <= 1; more++)
-            try_write(item, bytes, more);
-        return;
-    }
-    for (long more = -1; more <= 1; more++)
-        try_read(item, bytes, more);
+/* Makes all calls for a sheet. */
+static void try_sheet(const struct item *item, const void *bytes) {
+    try_read("read", strip_read, item, bytes);
     try_draw(item, bytes, -1, 0);
     try_draw(item, bytes, 0, -1);
     try_draw(item, bytes, 0, 0);
@@ -210,6 +212,26 @@ static void try_item(const struct item *item, const void *bytes) {
     try_check(item, bytes, 0x80);
     try_check(item, bytes, 0xff);
     try_narrowest(item, bytes);
+}
+
+/* Makes all calls for an item. */
+static void try_item(const struct item *item, const void *bytes) {
+    switch (item->kind) {
+    case SHEET:
+        try_sheet(item, bytes);
+        break;
+    case NUMBERS:
+        try_write("write", strip_write, item, bytes);
+        break;
+    case COORDINATES:
+        try_read("read_drawing", strip_read_drawing, item, bytes);
+        break;
+    case COORDINATE_NUMBERS:
+        try_write("write_drawing", strip_write_drawing, item, bytes);
+        break;
+    default:
+        fail("there is no such kind of item");
+    }
 }
 
 /* Takes every item from a file. */

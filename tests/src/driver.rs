@@ -1,20 +1,26 @@
-//! What the driver `tests/c/damaged.c` is given, and what it prints: calls of the five functions
+//! What the driver `tests/c/damaged.c` is given, and what it prints: calls of the seven functions
 //! with slices of just the lengths that are needed, one element shorter, and longer.
 
+mod files;
 mod items;
 
 use crate::generate::LONGEST;
-use second::certificate;
 use second::checker::check;
 use second::drawing::Sheet;
 use second::engine::draw;
 use second::minimum_width::minimum_width;
 use second::refusal::{Refusal, NO_DRAWING};
 use second::sheet::{read, write, NUMBER_LIMIT};
+use second::{certificate, coordinates};
 
 pub use items::items;
 
-/// The lengths by which the slices of reader and writer differ from what is needed.
+/// A function that reads numbers from bytes into the front of a slice.
+type Reader = fn(&[u8], &mut [u16]) -> Result<usize, Refusal>;
+/// A function that writes bytes from numbers into the front of a slice.
+type Writer = fn(&[u16], &mut [u8]) -> Result<usize, Refusal>;
+
+/// The lengths by which the slices of readers and writers differ from what is needed.
 const MORE: [isize; 3] = [-1, 0, 1];
 /// The same for the places and the list of a drawing.
 const MORE_DRAWN: [(isize, isize); 4] = [(-1, 0), (0, -1), (0, 0), (3, 5)];
@@ -25,8 +31,12 @@ const FILLINGS: [u8; 4] = [0x00, 0x7f, 0x80, 0xff];
 pub enum Item {
     /// The bytes of a sheet: read, drawn and checked, and its minimum width.
     Sheet(Vec<u8>),
-    /// A number list: written.
+    /// The number list of a sheet: written.
     Numbers(Vec<u16>),
+    /// The bytes of a coordinate file: read.
+    File(Vec<u8>),
+    /// The number list of a coordinate file: written.
+    Drawing(Vec<u16>),
 }
 
 /// The lengths of the slices that an item needs; 1 each where it is refused.
@@ -34,7 +44,7 @@ struct Needs {
     numbers: usize,
     places: usize,
     list: usize,
-    sheet: usize,
+    bytes: usize,
 }
 
 impl Item {
@@ -43,14 +53,21 @@ impl Item {
         Item::Sheet(bytes.to_vec())
     }
 
+    /// A coordinate file of these bytes.
+    pub fn file(bytes: &[u8]) -> Item {
+        Item::File(bytes.to_vec())
+    }
+
     /// The item as the driver reads it: six 32-bit numbers and the elements.
     pub fn bytes(&self) -> Vec<u8> {
         let (kind, elements) = match self {
             Item::Sheet(bytes) => (0, bytes.clone()),
-            Item::Numbers(numbers) => (1, numbers.iter().flat_map(|n| n.to_le_bytes()).collect()),
+            Item::Numbers(numbers) => (1, bytes_of(numbers)),
+            Item::File(bytes) => (2, bytes.clone()),
+            Item::Drawing(numbers) => (3, bytes_of(numbers)),
         };
         let needs = self.needs();
-        let lengths = [needs.numbers, needs.places, needs.list, needs.sheet];
+        let lengths = [needs.numbers, needs.places, needs.list, needs.bytes];
         let head = [kind, elements.len()].into_iter().chain(lengths);
         let mut bytes: Vec<u8> = head.flat_map(|n| (n as u32).to_le_bytes()).collect();
         bytes.extend(elements);
@@ -63,7 +80,7 @@ impl Item {
             numbers: 1,
             places: 1,
             list: 1,
-            sheet: 1,
+            bytes: 1,
         };
         match self {
             Item::Sheet(bytes) => {
@@ -76,7 +93,13 @@ impl Item {
                 }
             }
             Item::Numbers(numbers) => {
-                needs.sheet = write(numbers, &mut [0; LONGEST]).unwrap_or(1);
+                needs.bytes = write(numbers, &mut [0; LONGEST]).unwrap_or(1);
+            }
+            Item::File(bytes) => {
+                needs.numbers = coordinates::read(bytes, &mut [0; NUMBER_LIMIT]).unwrap_or(1);
+            }
+            Item::Drawing(numbers) => {
+                needs.bytes = coordinates::write(numbers, &mut [0; LONGEST]).unwrap_or(1);
             }
         }
         needs
@@ -89,7 +112,7 @@ pub fn calls(item: &Item) -> Vec<String> {
     let mut lines = Vec::new();
     match item {
         Item::Sheet(bytes) => {
-            lines.extend(MORE.map(|more| reading(bytes, longer(needs.numbers, more))));
+            lines.extend(readings("read", read, bytes, needs.numbers));
             for (places, list) in MORE_DRAWN {
                 lines.extend(drawing(bytes, &needs, places, list));
             }
@@ -97,7 +120,15 @@ pub fn calls(item: &Item) -> Vec<String> {
             lines.push(narrowest(bytes));
         }
         Item::Numbers(numbers) => {
-            lines.extend(MORE.map(|more| writing(numbers, longer(needs.sheet, more))));
+            lines.extend(writings("write", write, numbers, needs.bytes));
+        }
+        Item::File(bytes) => {
+            let read = coordinates::read;
+            lines.extend(readings("read_drawing", read, bytes, needs.numbers));
+        }
+        Item::Drawing(numbers) => {
+            let write = coordinates::write;
+            lines.extend(writings("write_drawing", write, numbers, needs.bytes));
         }
     }
     lines
@@ -108,21 +139,25 @@ fn longer(length: usize, more: isize) -> usize {
     length.checked_add_signed(more).expect("a length is not 0")
 }
 
-/// The line for reading a sheet into a slice of this length.
-fn reading(bytes: &[u8], length: usize) -> String {
-    let mut numbers = vec![0; length];
-    let answer = read(bytes, &mut numbers);
-    numbers.truncate(answer.unwrap_or(0));
-    shown("read", answer.map(|count| count as u32), &numbers)
+/// The lines for reading bytes into slices of about this length.
+fn readings(name: &str, read: Reader, bytes: &[u8], length: usize) -> [String; 3] {
+    MORE.map(|more| {
+        let mut numbers = vec![0; longer(length, more)];
+        let answer = read(bytes, &mut numbers);
+        numbers.truncate(answer.unwrap_or(0));
+        let written = bytes_of(&numbers);
+        shown(name, answer.map(|count| count as u32), written)
+    })
 }
 
-/// The line for writing a list into a slice of this length.
-fn writing(numbers: &[u16], length: usize) -> String {
-    let mut bytes = vec![0; length];
-    let answer = write(numbers, &mut bytes);
-    let written = sum(bytes.into_iter().take(answer.unwrap_or(0)));
-    let number = number(answer.map(|count| count as u32));
-    format!("write {number:016x} {written:08x}")
+/// The lines for writing a list into slices of about this length.
+fn writings(name: &str, write: Writer, numbers: &[u16], length: usize) -> [String; 3] {
+    MORE.map(|more| {
+        let mut bytes = vec![0; longer(length, more)];
+        let answer = write(numbers, &mut bytes);
+        bytes.truncate(answer.unwrap_or(0));
+        shown(name, answer.map(|count| count as u32), bytes)
+    })
 }
 
 /// The lines for drawing a sheet and checking the drawing, with so much more room than needed.
@@ -133,7 +168,7 @@ fn drawing(bytes: &[u8], needs: &Needs, more_places: isize, more_list: isize) ->
     let answer = draw(bytes, &mut places, &mut list);
     let checked = check(bytes, &places, &list);
     places.truncate(answer.map_or(0, |_| needs.places));
-    let mut lines = vec![shown("draw", answer, &places)];
+    let mut lines = vec![shown("draw", answer, bytes_of(&places))];
     if !answer.is_err_and(|refusal| refusal.number == NO_DRAWING) {
         lines.push(format!("check {:016x}", number(checked.map(u32::from))));
     }
@@ -156,10 +191,15 @@ fn narrowest(bytes: &[u8]) -> String {
     format!("narrowest {word:016x}")
 }
 
-/// The line for an answer and the 16-bit elements written.
-fn shown(name: &str, answer: Result<u32, Refusal>, written: &[u16]) -> String {
-    let written = sum(written.iter().flat_map(|n| n.to_le_bytes()));
+/// The line for an answer and the bytes of the elements written.
+fn shown(name: &str, answer: Result<u32, Refusal>, written: Vec<u8>) -> String {
+    let written = sum(written.into_iter());
     format!("{name} {:016x} {written:08x}", number(answer))
+}
+
+/// The bytes of 16-bit numbers.
+fn bytes_of(numbers: &[u16]) -> Vec<u8> {
+    numbers.iter().flat_map(|n| n.to_le_bytes()).collect()
 }
 
 /// An answer without a second value as one number: that of the refusal · 2³² + value.

@@ -1,10 +1,11 @@
-//! The five functions touch no memory but the slices lent to them, and use no contents that nobody
-//! wrote: `tests/c/damaged.c` calls them on good and damaged sheets and lists, with each slice in a
-//! block of exactly its size, under valgrind and between pages that nobody may touch.
+//! The seven functions touch no memory but the slices lent to them, and use no contents that nobody
+//! wrote: `tests/c/damaged.c` calls them on good and damaged sheets, coordinate files and lists, with
+//! each slice in a block of exactly its size, under valgrind and between pages that nobody may touch.
 
 mod process;
 mod tools;
 
+use std::collections::BTreeSet;
 use std::fs;
 use std::path::{Path, PathBuf};
 use std::process::{Command, Output, Stdio};
@@ -12,6 +13,7 @@ use std::time::Duration;
 
 use process::run;
 use strip_tests::driver::{calls, items, Item};
+use strip_tests::files::GOOD;
 use tools::{compiler, folder, output, LIBRARY};
 
 /// How long one run of the driver may take.
@@ -101,6 +103,18 @@ fn there_are_items_of_every_kind_and_size() {
     let count = |line: &str| lines.iter().filter(|other| *other == line).count();
     assert!(count("check 0000000000000001") > 300);
     assert!(count("narrowest 0000000a00000000") > 50);
+    check_met(&lines, "read_drawing", &[0, 1, 2, 3, 4, 6, 7]);
+    check_met(&lines, "write_drawing", &[0, 1, 4, 6, 7]);
+}
+
+/// Checks that these refusals are among the answers of a function, and no other; 0 is none.
+fn check_met(lines: &[String], name: &str, numbers: &[u32]) {
+    let answers = lines
+        .iter()
+        .filter_map(|line| line.strip_prefix(name)?.strip_prefix(' '));
+    let number = |answer: &str| u32::from_str_radix(&answer[..8], 16).expect("a number");
+    let met: BTreeSet<u32> = answers.map(number).collect();
+    assert!(met.iter().eq(numbers), "{name}: {met:?}");
 }
 
 #[test]
@@ -144,7 +158,7 @@ fn valgrind_reports_deliberate_faults() {
 #[test]
 fn a_page_stops_one_byte_or_element_too_many() {
     let driver = driver("damaged-pages-fault", &[]);
-    for (fault, item, _) in faults().into_iter().take(2) {
+    for (fault, item, _) in faults().into_iter().take(4) {
         let file = file_of(&format!("pages-{fault}.items"), &[item]);
         let output = with_fault(&mut Command::new(&driver), "before", fault, &file);
         assert_eq!(output.status.code(), None, "{fault}: ended by a signal");
@@ -176,12 +190,15 @@ fn first() -> Vec<u8> {
     strip_tests::document::first().bytes()
 }
 
-/// The deliberate faults, each with an item that it shows on and the words of valgrind's report.
-fn faults() -> [(&'static str, Item, &'static str); 3] {
-    let cut_off = &first()[..9];
+/// The deliberate faults, each with an item that it shows on and the words of valgrind's report; pages
+/// show all but the last.
+fn faults() -> [(&'static str, Item, &'static str); 5] {
+    let (sheet, (_, file, _)) = (first(), GOOD[0]);
     [
-        ("read", Item::sheet(cut_off), "Invalid read of size 1"),
-        ("write", Item::sheet(&first()), "Invalid write of size 2"),
-        ("undefined", Item::sheet(&first()), "uninitialised value"),
+        ("read", Item::sheet(&sheet[..9]), "Invalid read of size 1"),
+        ("write", Item::sheet(&sheet), "Invalid write of size 2"),
+        ("read", Item::file(&file[..6]), "Invalid read of size 1"),
+        ("write", Item::file(file), "Invalid write of size 2"),
+        ("undefined", Item::sheet(&sheet), "uninitialised value"),
     ]
 }

@@ -1,5 +1,6 @@
-//! Good and damaged sheets and number lists of all sizes, for the driver.
+//! Good and damaged sheets, coordinate files and number lists of all sizes, for the driver.
 
+use super::files::{drawings, files};
 use super::Item;
 use crate::damage::DAMAGES;
 use crate::document::{self, NO_DRAWING, ONE_NODE, REFUSED};
@@ -13,9 +14,15 @@ use second::sheet::{read, EDGE_LIMIT, NODE_LIMIT, NUMBER_LIMIT};
 /// All items.
 pub fn items() -> Vec<Item> {
     let sheets: Vec<Vec<u8>> = [named(), damaged(), random(), large()].concat();
-    let lists = number_lists(&sheets).into_iter().map(Item::Numbers);
-    let mut items: Vec<Item> = sheets.into_iter().map(Item::Sheet).collect();
-    items.extend(lists);
+    let files = files();
+    let mut items = Vec::new();
+    // the reader of each format gets some bytes of the other
+    items.extend(sheets.iter().step_by(40).map(|bytes| Item::file(bytes)));
+    items.extend(files.iter().step_by(40).map(|bytes| Item::sheet(bytes)));
+    items.extend(number_lists(&sheets).into_iter().map(Item::Numbers));
+    items.extend(drawings(&files).into_iter().map(Item::Drawing));
+    items.extend(sheets.into_iter().map(Item::Sheet));
+    items.extend(files.into_iter().map(Item::File));
     items
 }
 
