@@ -7,7 +7,8 @@ use std::fs;
 use std::path::{Path, PathBuf};
 use std::process::Command;
 
-use tools::{folder, root, run_in, shared_library, NO_KIT};
+use strip_tests::compare::grouped;
+use tools::{folder, root, run_in, shared_library, HEADER, NO_KIT};
 
 /// The pages, from the root of the repository; of the template of a note no path is one of a file.
 fn pages() -> Vec<PathBuf> {
@@ -168,6 +169,27 @@ fn commands_of_the_readme_work() {
 #[test]
 fn commands_for_the_library_work() {
     check_commands("docs/LIBRARY.md", 17);
+}
+
+#[test]
+fn functions_and_sizes_of_the_header_are_in_the_library_page() {
+    let page = text(Path::new("docs/LIBRARY.md"));
+    let header = text(Path::new(HEADER));
+    let names: Vec<&str> = between(&header, "\nuint64_t ", "(").collect();
+    assert!(names.len() >= 7, "{names:?}");
+    for name in names {
+        // what it does, and its stack
+        let row = format!("\n| `{name}` | ");
+        assert_eq!(page.matches(&row).count(), 2, "{name}");
+    }
+    let sizes: Vec<&str> = between(&header, "#define STRIP_MAX_", "\n").collect();
+    assert!(sizes.len() >= 6, "{sizes:?}");
+    for size in sizes {
+        let (name, number) = size.split_once(' ').expect("a name and a number");
+        let number = grouped(number.parse().expect("a number"));
+        let row = format!(" | `STRIP_MAX_{name}`, {number} |\n");
+        assert!(page.contains(&row), "{row}");
+    }
 }
 
 /// The bytes of a text in hexadecimal.
