@@ -1,5 +1,5 @@
 //! The page of the refusals, docs/REFUSALS.md: a row and a section for each refusal of the header, and
-//! an example in each section that both implementations answer as it says.
+//! examples in each section that both implementations answer as they say.
 
 mod library;
 mod tools;
@@ -35,21 +35,45 @@ fn number(text: &str) -> Option<usize> {
     text.replace(',', "").parse().ok()
 }
 
-/// The call of an example, with its slices; `narrowest` has none.
-fn call(name: &str, bytes: &str, slices: &str) -> Option<Call> {
+/// The bytes of an example, in hexadecimal.
+fn bytes(input: &str) -> Option<Vec<u8>> {
     let byte = |text| u8::from_str_radix(text, 16).ok();
-    let bytes = bytes.split(' ').map(byte).collect::<Option<_>>()?;
-    let slices = slices.strip_suffix(" numbers").unwrap_or(slices);
+    let input = input.strip_prefix('`')?.strip_suffix('`')?;
+    input.split(' ').map(byte).collect()
+}
+
+/// The number list of an example.
+fn numbers(input: &str) -> Option<Vec<u16>> {
+    input.split(", ").map(|text| text.parse().ok()).collect()
+}
+
+/// The call of an example, with its slices; `narrowest` has none.
+fn call(name: &str, input: &str, slices: &str) -> Option<Call> {
+    let room = |unit| number(slices.strip_prefix("a slice of ")?.strip_suffix(unit)?);
     match name {
         "read" => {
-            let room = number(slices.strip_prefix(" with a slice of ")?)?;
+            let (bytes, room) = (bytes(input)?, room(" numbers")?);
             Some(Call::Read { bytes, room })
         }
-        "narrowest" => slices.is_empty().then_some(Call::Narrowest { bytes }),
+        "read_drawing" => {
+            let (file, room) = (bytes(input)?, room(" numbers")?);
+            Some(Call::ReadDrawing { file, room })
+        }
+        "write_drawing" => {
+            let (numbers, room) = (numbers(input)?, room(" bytes")?);
+            Some(Call::WriteDrawing { numbers, room })
+        }
+        "narrowest" if slices.is_empty() => {
+            let bytes = bytes(input)?;
+            Some(Call::Narrowest { bytes })
+        }
         "draw" => {
-            let lengths = slices.strip_prefix(" with slices of ")?;
-            let (places, list) = lengths.split_once(" places and ")?;
+            let lengths = slices.strip_prefix("slices of ")?;
+            let (places, list) = lengths
+                .strip_suffix(" numbers")?
+                .split_once(" places and ")?;
             let (places, list) = (number(places)?, number(list)?);
+            let bytes = bytes(input)?;
             Some(Call::Draw {
                 bytes,
                 places,
@@ -60,24 +84,36 @@ fn call(name: &str, bytes: &str, slices: &str) -> Option<Call> {
     }
 }
 
-/// What an example says: "Example: `CALL` of `BYTES` with SLICES: refused NUMBER at OFFSET.", or the
-/// same without slices.
-fn example(line: &str) -> Option<(Call, Refusal)> {
-    let (name, rest) = line.strip_prefix("Example: `")?.split_once("` of `")?;
-    let (bytes, rest) = rest.split_once('`')?;
-    let (slices, refusal) = rest.split_once(": refused ")?;
-    let (refused, offset) = refusal.strip_suffix('.')?.split_once(" at ")?;
-    let refusal = Refusal::new(refused.parse().ok()?, number(offset)?);
-    Some((call(name, bytes, slices)?, refusal))
+/// What an example says: "`CALL` of INPUT with SLICES: refused NUMBER at OFFSET.", or the same without
+/// slices; INPUT is bytes or a number list.
+fn example(text: &str) -> (Call, Refusal) {
+    let read = || {
+        let (name, rest) = text.strip_prefix('`')?.split_once("` of ")?;
+        let (input, refusal) = rest.split_once(": refused ")?;
+        let (input, slices) = input.split_once(" with ").unwrap_or((input, ""));
+        let (refused, offset) = refusal.split_once('.')?.0.split_once(" at ")?;
+        let refusal = Refusal::new(refused.parse().ok()?, number(offset)?);
+        Some((call(name, input, slices)?, refusal))
+    };
+    read().unwrap_or_else(|| panic!("cannot be read: {text}"))
 }
 
-/// The one example of a section.
+/// The one example of a section with a sheet.
 fn only_example(section: &str) -> (Call, Refusal) {
-    let lines = section.lines().filter(|line| line.starts_with("Example"));
+    let lines = section
+        .lines()
+        .filter_map(|line| line.strip_prefix("Example: "));
     match lines.collect::<Vec<_>>()[..] {
-        [line] => example(line).unwrap_or_else(|| panic!("cannot be read: {line}")),
+        [text] => example(text),
         _ => panic!("not one example: {section}"),
     }
+}
+
+/// The examples of a section with coordinate files and their number lists.
+fn file_examples(section: &str) -> Vec<(Call, Refusal)> {
+    let lines = section.lines().filter_map(|line| line.strip_prefix("- "));
+    let examples = lines.filter(|line| line.contains(": refused "));
+    examples.map(example).collect()
 }
 
 #[test]
@@ -105,14 +141,33 @@ fn table_has_the_names_and_numbers_of_the_header() {
 #[test]
 fn examples_are_refused_as_they_say() {
     for (number, section) in sections(&page()) {
-        let (call, refusal) = only_example(section);
-        assert_eq!(refusal.number, number, "{section}");
-        assert_eq!(
-            compare::call(&Proved, &call),
-            Some(Err(refusal)),
-            "{call:?}"
-        );
+        let examples = file_examples(section).into_iter();
+        for (call, refusal) in examples.chain([only_example(section)]) {
+            assert_eq!(refusal.number, number, "{section}");
+            assert_eq!(
+                compare::call(&Proved, &call),
+                Some(Err(refusal)),
+                "{call:?}"
+            );
+        }
     }
+}
+
+#[test]
+fn each_refusal_of_coordinate_files_has_examples() {
+    let page = page();
+    let sections = sections(&page);
+    let with = |is: fn(&Call) -> bool| -> Vec<u32> {
+        let sections = sections.iter().filter(|(_, section)| {
+            let examples = file_examples(section);
+            examples.iter().any(|(call, _)| is(call))
+        });
+        sections.map(|&(number, _)| number).collect()
+    };
+    let read = with(|call| matches!(call, Call::ReadDrawing { .. }));
+    let written = with(|call| matches!(call, Call::WriteDrawing { .. }));
+    assert_eq!(read, [1, 2, 3, 4, 6, 7]);
+    assert_eq!(written, [1, 4, 6, 7]);
 }
 
 #[test]
