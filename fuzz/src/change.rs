@@ -1,24 +1,35 @@
-//! Changes of good sheets that keep them good.
+//! Changes of good inputs that keep them good; those of sheets.
 
 use second::sheet::{
     EDGE_LIMIT, LAYER_LIMIT, LAYER_NODE_LIMIT, NODE_LIMIT, PLAIN, SEPARATION_LIMIT, STRAIGHT,
     WIDTH_LIMIT,
 };
 use strip_tests::draft::{Draft, Edge, Separation};
+use strip_tests::files::any;
 use strip_tests::generate::{good, small};
 use strip_tests::planted::{planted, Plan};
 use strip_tests::random::Random;
 
 use crate::parts::{count, fit, parts};
+use crate::rows;
 
-/// The sheet changed a few times; none where its bytes are better changed as they are.
-pub fn sheet(random: &mut Random, bytes: &[u8]) -> Option<Vec<u8>> {
+/// The sheet or coordinate file changed a few times; none where its bytes are better changed as they
+/// are.
+pub fn input(random: &mut Random, bytes: &[u8]) -> Option<Vec<u8>> {
     if random.once_in(6) {
         return None;
     }
     if random.once_in(60) {
         return Some(another(random).bytes());
     }
+    if random.once_in(240) {
+        return Some(any(random).bytes());
+    }
+    sheet(random, bytes).or_else(|| rows::file(random, bytes))
+}
+
+/// The sheet changed a few times; none where it is not good.
+fn sheet(random: &mut Random, bytes: &[u8]) -> Option<Vec<u8>> {
     let mut draft = parts(bytes)?;
     for _ in 0..random.within(1..=4) {
         change(random, &mut draft);

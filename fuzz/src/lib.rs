@@ -1,6 +1,6 @@
 //! What libFuzzer calls: trying one input, and changing one input to another.
 //!
-//! An input is the bytes of a sheet, good or not. A difference between the library and the second
+//! An input is the bytes of a sheet or of a coordinate file, good or not. A difference between the library and the second
 //! implementation panics, and a panic ends the program, so that libFuzzer reports the input.
 
 mod change;
@@ -9,6 +9,7 @@ mod fault;
 #[path = "../../tests/tests/library/mod.rs"]
 mod library;
 mod parts;
+mod rows;
 
 use std::slice;
 
@@ -41,7 +42,8 @@ pub unsafe extern "C" fn LLVMFuzzerTestOneInput(data: *const u8, size: usize) ->
     0
 }
 
-/// Changes an input: a good sheet as a rule to another good sheet, anything else byte by byte.
+/// Changes an input: a good sheet or coordinate file as a rule to another good one, anything else byte
+/// by byte.
 ///
 /// # Safety
 ///
@@ -56,7 +58,7 @@ pub unsafe extern "C" fn LLVMFuzzerCustomMutator(
     let mut random = Random::new(seed.into());
     // SAFETY: libFuzzer gives a block of the greatest size.
     let block = unsafe { slice::from_raw_parts_mut(data, max_size) };
-    match change::sheet(&mut random, &block[..size]) {
+    match change::input(&mut random, &block[..size]) {
         Some(bytes) if bytes.len() <= max_size => {
             block[..bytes.len()].copy_from_slice(&bytes);
             bytes.len()
