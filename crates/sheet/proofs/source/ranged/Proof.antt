@@ -1,6 +1,7 @@
 -- `sheet::source::ranged` meets its contract: what is found is tested by `within`, and counted.
 use Prim.Native.Nat.{_^_}
-use Rattle.sheet.proofs.laws.Rules.{within-inside, within-below, within-above}
+use Rattle.leb128.specs.laws.EachNumber.{within-inside}
+use Rattle.sheet.proofs.laws.Rules.{within-below, within-above}
 use Rattle.sheet.proofs.laws.WalkSteps.{found-refused, found-outside, found-inside, found-fits}
 use denote.Ref.{now}
 use native.Mathlib.Omega.{arith}
