@@ -1,5 +1,6 @@
 pub mod Rules
 pub mod WalkSteps
+pub mod FoundNumbers
 pub mod Edges
 pub mod Layers
 pub mod Sheet

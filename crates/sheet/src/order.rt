@@ -5,7 +5,7 @@ use crate::limits::MAX_COORDINATE;
 use crate::limits::MAX_LAYER_NODES;
 use crate::limits::MAX_LAYERS;
 use crate::limits::MAX_NODES;
-use crate::walk::smaller;
+use crate::source::smaller;
 ghost use mathlib.Core.Path.{_≡_};
 ghost use mathlib.Core.Bool.{true};
 ghost use Rattle.sheet.specs.inside.Awaited.{beginning, more as «more-awaited», «range-of», behind as «state-behind», InRange};

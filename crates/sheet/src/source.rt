@@ -9,7 +9,7 @@ use leb128::number_size;
 use leb128::read_number;
 use leb128::refusals::OUTSIDE_LIMITS;
 ghost use mathlib.Core.Path.{_≡_};
-ghost use Prim.Native.Nat.{_<_};
+ghost use Prim.Native.Nat.{_<_, min};
 ghost use Rattle.leb128.specs.Limits.{«list-limit»};
 ghost use Rattle.leb128.specs.Grammar.{Form};
 ghost use Rattle.leb128.specs.Source.{item, refusal, «in-bytes»};
@@ -87,4 +87,11 @@ pub fn limited(bytes: &[u8], numbers: &[u16], c: Cursor, low: u32, high: u32) ->
     ensures { λ r. ⌜ Limited (now (bytes .entry)) (now (numbers .entry)) c low high r ⌝ }
 {
     ranged(bytes, numbers, c, Range { base: 0, low, high })
+}
+
+// The smaller of two limits.
+pub fn smaller(a: u32, b: u32) -> u32
+    ensures { λ r. ⌜ r ≡ min a b ⌝ }
+{
+    if a < b { a } else { b }
 }

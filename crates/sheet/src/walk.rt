@@ -11,8 +11,9 @@ use crate::limits::MAX_WIDTH;
 use crate::refusals::SEPARATIONS_CROSSED;
 use crate::source::limited;
 use crate::source::refuse;
+use crate::source::smaller;
 ghost use mathlib.Core.Path.{_≡_};
-ghost use Prim.Native.Nat.{_≤_, _<_, min};
+ghost use Prim.Native.Nat.{_≤_};
 ghost use lib.ListN.{length, take};
 ghost use Rattle.sheet.specs.Grammar as grammar;
 ghost use Rattle.sheet.specs.inside.Cursor.{Counted, «walk-from», walked, Maximum, Separation, Edge, LayersRead};
@@ -87,13 +88,6 @@ fn edges(bytes: &[u8], numbers: &[u16], start: Cursor, counts: &[u32], layers: u
         i += 1;
     }
     Step::Value(n, c)
-}
-
-// The smaller of two numbers.
-pub fn smaller(a: u32, b: u32) -> u32
-    ensures { λ r. ⌜ r ≡ min a b ⌝ }
-{
-    if a < b { a } else { b }
 }
 
 // The n layers: each one's count of nodes goes to counts, and its separations follow the count.

@@ -1,5 +1,5 @@
 -- One step of the walk: the number reader's answer, tested by a rule, is what the grammar says of a number there.
-use Prim.Native.Nat.{ℕ, _+_, _-_, _*_, _<_, _≤_}
+use Prim.Native.Nat.{ℕ, _+_, _-_, _<_, _≤_}
 use mathlib.Core.Path.{_≡_, refl, sym, _∙_, ap, subst}
 use mathlib.Core.Bool.{Bool, true, false}
 use mathlib.Core.Logic.{⊎-elim}
@@ -8,7 +8,6 @@ use native.Mathlib.Omega.{arith}
 use native.Mathlib.Nat.{add-zero}
 use lib.ListN.{length, length-append}
 use Rattle.leb128.specs.Limits.{number-bytes}
-use Rattle.leb128.specs.Refusals.{outside-limits}
 use Rattle.leb128.specs.Number.{encode}
 use Rattle.leb128.specs.Grammar.{Form, Grammar, Rule, plain, within}
 use Rattle.leb128.specs.Grammar.Form.{above}
@@ -23,10 +22,9 @@ use Rattle.leb128.specs.laws.ItemCases.{list-value, list-ended, ahead}
 use Rattle.leb128.specs.laws.StepCases.{checked-good, checked-broken, checked-value, checked-both}
 use Rattle.leb128.specs.laws.EachNumber.{within-limits}
 use Rattle.leb128.specs.declared.Refusal.{Refusal}
-use Rattle.leb128.specs.declared.Found.{Found}
-use Rattle.sheet.specs.Limits.{magic-bytes, max-separation}
+use Rattle.sheet.specs.Limits.{max-separation}
 use Rattle.sheet.specs.Grammar.{crossed, maximum-rule}
-use Rattle.sheet.specs.inside.Cursor.{Measure, source, excess-weight, weight, weigh, step-of, counted, Counted}
+use Rattle.sheet.specs.inside.Cursor.{Measure, source, weight, weigh, step-of, counted, Counted}
 use Rattle.sheet.specs.inside.Cursor.{measured, walk-from, onward, OfValue, Reads, tested, Ranged, Limited, Maximum}
 use Rattle.sheet.specs.declared.Cursor.{Cursor}
 use Rattle.sheet.specs.declared.Range.{Range}
@@ -51,20 +49,8 @@ walk-done bytes numbers c = ap (Measure.whole (c .at)) (go (c .encoded))
     go true = add-zero (c .count)
     go false = add-zero (c .count)
 
--- what the bytes hold, above a base
-module _ (bytes : List ℕ) (at base : ℕ) where
-  -- a number
-  pub above-value : {n after : ℕ} → byte-item bytes at ≡ value n after → value (base + n) after ≡ in-bytes bytes (above base) at
-  unfolding in-bytes raised
-  above-value e = rw e
-
-  -- a refusal
-  pub above-refused : {r : Refusal} → byte-item bytes at ≡ Item.refused r → Item.refused r ≡ in-bytes bytes (above base) at
-  unfolding in-bytes raised
-  above-refused e = rw e
-
 -- the position behind a number in bytes, in any form
-raised-ahead : (bytes : List ℕ) (base at n after : ℕ) → in-bytes bytes (above base) at ≡ value n after → at < after
+pub raised-ahead : (bytes : List ℕ) (base at n after : ℕ) → in-bytes bytes (above base) at ≡ value n after → at < after
 unfolding in-bytes raised
 raised-ahead bytes base at n after e = go (byte-item bytes at) refl e
   where
@@ -73,7 +59,7 @@ raised-ahead bytes base at n after e = go (byte-item bytes at) refl e
     go (Item.refused r) i e = let z : _≡_ {A = ℕ} 0 1 = cc in absurd (omega arith)
 
 -- the position behind a number in a list
-listed-ahead : (numbers : List ℕ) (at n after : ℕ) → list-item numbers at ≡ value n after → (at < length numbers) × (after ≡ at + 1)
+pub listed-ahead : (numbers : List ℕ) (at n after : ℕ) → list-item numbers at ≡ value n after → (at < length numbers) × (after ≡ at + 1)
 listed-ahead numbers at n after e =
     ⊎-elim
     (λ (there : at < length numbers).
@@ -92,15 +78,6 @@ counted-next : (bytes numbers : List ℕ) (encoded : Bool) (form : Form) (at cou
 unfolding in-list
 counted-next bytes numbers true (above base) at count n after e h = omega (arith, raised-ahead bytes base at n after e)
 counted-next bytes numbers false (above base) at count n after e h =
-    omega (arith, listed-ahead numbers at n after e, encode-most number-bytes (n - base))
-
--- what is counted fits where positions and the list do
-pub count-fits : (bytes numbers : List ℕ) (encoded : Bool) (form : Form) (at count n after limit : ℕ)
-    → source encoded bytes numbers form at ≡ value n after → counted encoded at count
-    → after < limit → magic-bytes + number-bytes * length numbers < limit → count + weight encoded form n < limit
-unfolding in-list
-count-fits bytes numbers true (above base) at count n after limit e h small few = omega (arith, raised-ahead bytes base at n after e)
-count-fits bytes numbers false (above base) at count n after limit e h small few =
     omega (arith, listed-ahead numbers at n after e, encode-most number-bytes (n - base))
 
 module _ (bytes numbers : List ℕ) (c : Cursor) (form : Form) (rule : Rule) (P : ℕ → Type 0) where
@@ -200,48 +177,6 @@ maximum-by {bytes} {numbers} {c} {least} {step} h e =
           (checked-both (within 0 max-separation) (crossed least) (c .at) (source (c .encoded) bytes numbers plain (c .at))))
           h (λ n ok. tt);
     }
-
--- what was found at a cursor, tested by its range
-module _ (bytes numbers : List ℕ) (c : Cursor) (range : Range) {found : Found} (h : Counted c)
-    (is-found : item found ≡ source (c .encoded) bytes numbers (above (range .base)) (c .at)) where
-  -- a refusal stays
-  pub found-refused : {r : Refusal} → found ≡ Found.Refused r → Ranged bytes numbers c range (Refused r)
-  unfolding checked
-  found-refused e = ranged-by h (rw (sym is-found ∙ ap item e))
-
-  module _ {n after : ℕ} (e : found ≡ Found.Value n after) where
-    -- the value that stands there
-    stands : source (c .encoded) bytes numbers (above (range .base)) (c .at) ≡ value n after
-    stands = sym is-found ∙ ap item e
-
-    -- a value outside its limits is refused
-    pub found-outside : {answer : Step} → within (range .low) (range .high) n ≡ outside-limits
-        → answer ≡ Refused (refusal outside-limits (c .at)) → Ranged bytes numbers c range answer
-    found-outside w a =
-        ranged-by h
-        (a ∙ ap (step-of c (above (range .base)))
-        (sym
-        (ap (checked (within (range .low) (range .high)) (c .at)) stands
-        ∙ checked-broken (within (range .low) (range .high)) (c .at) n after (λ (z : within (range .low) (range .high) n ≡ 0). omega arith)
-        ∙ ap (λ (k : ℕ). Item.refused (refusal k (c .at))) w)))
-
-    -- a value within them is counted
-    pub found-inside : {count : ℕ} → within (range .low) (range .high) n ≡ 0
-        → count ≡ c .count + excess-weight (c .encoded) (n - range .base)
-        → Ranged bytes numbers c range (Value n (record { encoded = c .encoded; at = after; count = count }))
-    found-inside w k =
-        ranged-by h
-        (ap (λ (m : ℕ). Value n (record { encoded = c .encoded; at = after; count = m })) k
-        ∙ ap (step-of c (above (range .base)))
-        (sym
-        (ap (checked (within (range .low) (range .high)) (c .at)) stands
-        ∙ checked-good (within (range .low) (range .high)) (c .at) n after w)))
-
-    -- and what is counted fits
-    pub found-fits : (limit : ℕ) → after < limit → magic-bytes + number-bytes * length numbers < limit
-        → c .count + excess-weight (c .encoded) (n - range .base) < limit
-    found-fits limit small few =
-        count-fits bytes numbers (c .encoded) (above (range .base)) (c .at) (c .count) n after limit stands h small few
 
 -- two parts, one behind the other
 module _ {bytes numbers : List ℕ} {c : Cursor} {part : (ℕ → Grammar) → Grammar} {P : ℕ → Type 0} {step : Step}

@@ -1,7 +1,7 @@
 -- `sheet::source::number_above` meets its contract: what the bytes hold is small enough to be raised.
 use Rattle.leb128.specs.Source.{item}
 use Rattle.leb128.specs.laws.ItemCases.{has-form}
-use Rattle.sheet.proofs.laws.WalkSteps.{above-refused, above-value}
+use Rattle.sheet.proofs.laws.FoundNumbers.{above-refused, above-value}
 use denote.Ref.{now}
 use mathlib.Core.Path.{sym, _∙_, ap}
 use native.Mathlib.Omega.{arith}

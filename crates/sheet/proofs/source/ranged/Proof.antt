@@ -2,7 +2,7 @@
 use Prim.Native.Nat.{_^_}
 use Rattle.leb128.specs.laws.EachNumber.{within-inside}
 use Rattle.sheet.proofs.laws.Rules.{within-below, within-above}
-use Rattle.sheet.proofs.laws.WalkSteps.{found-refused, found-outside, found-inside, found-fits}
+use Rattle.sheet.proofs.laws.FoundNumbers.{found-refused, found-outside, found-inside, found-fits}
 use denote.Ref.{now}
 use native.Mathlib.Omega.{arith}
 use borrow.Author.Needs.{needs}
