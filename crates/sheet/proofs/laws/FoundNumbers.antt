@@ -9,18 +9,15 @@ use Rattle.leb128.specs.Limits.{number-bytes}
 use Rattle.leb128.specs.Refusals.{outside-limits}
 use Rattle.leb128.specs.Grammar.{Form, within}
 use Rattle.leb128.specs.Grammar.Form.{above}
-use Rattle.leb128.specs.Grammar.Grammar.{number}
 use Rattle.leb128.specs.Source.{Item, item, refusal, raised, byte-item, in-bytes, in-list}
 use Rattle.leb128.specs.Source.Item.{value}
 use Rattle.leb128.specs.Walk.{checked}
-use Rattle.leb128.specs.Format.{encoded}
 use Rattle.leb128.specs.laws.DecodeEncode.{encode-most}
 use Rattle.leb128.specs.laws.StepCases.{checked-good, checked-broken}
 use Rattle.leb128.specs.declared.Refusal.{Refusal}
 use Rattle.leb128.specs.declared.Found.{Found}
 use Rattle.sheet.specs.Limits.{magic-bytes}
-use Rattle.sheet.specs.inside.Cursor.{source, excess-weight, weight, step-of, counted, Counted}
-use Rattle.sheet.specs.inside.Cursor.{tested, Ranged}
+use Rattle.sheet.specs.inside.Cursor.{source, excess-weight, weight, step-of, counted, Counted, Ranged}
 use Rattle.sheet.specs.declared.Cursor.{Cursor}
 use Rattle.sheet.specs.declared.Range.{Range}
 use Rattle.sheet.specs.declared.Step.{Step}
@@ -40,7 +37,7 @@ module _ (bytes : List ℕ) (at base : ℕ) where
   above-refused e = rw e
 
 -- what is counted fits where positions and the list do
-pub count-fits : (bytes numbers : List ℕ) (encoded : Bool) (form : Form) (at count n after limit : ℕ)
+count-fits : (bytes numbers : List ℕ) (encoded : Bool) (form : Form) (at count n after limit : ℕ)
     → source encoded bytes numbers form at ≡ value n after → counted encoded at count
     → after < limit → magic-bytes + number-bytes * length numbers < limit → count + weight encoded form n < limit
 unfolding in-list

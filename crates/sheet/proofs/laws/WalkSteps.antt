@@ -12,7 +12,7 @@ use Rattle.leb128.specs.Number.{encode}
 use Rattle.leb128.specs.Grammar.{Form, Grammar, Rule, plain, within}
 use Rattle.leb128.specs.Grammar.Form.{above}
 use Rattle.leb128.specs.Grammar.Grammar.{number, done}
-use Rattle.leb128.specs.Source.{Item, item, refusal, raised, byte-item, list-item, in-bytes, in-list}
+use Rattle.leb128.specs.Source.{Item, refusal, raised, byte-item, list-item, in-bytes, in-list}
 use Rattle.leb128.specs.Source.Item.{value}
 use Rattle.leb128.specs.Walk.{Walk, checked, led, followed, walk}
 use Rattle.leb128.specs.Format.{held, encoded}
