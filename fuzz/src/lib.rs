@@ -1,7 +1,8 @@
 //! What libFuzzer calls: trying one input, and changing one input to another.
 //!
-//! An input is the bytes of a sheet or of a coordinate file, good or not. A difference between the library and the second
-//! implementation panics, and a panic ends the program, so that libFuzzer reports the input.
+//! An input is the bytes of a sheet or of a coordinate file, good or not. A difference between the
+//! library and the second implementation panics, and a panic ends the program, so that libFuzzer
+//! reports the input.
 
 mod change;
 #[cfg(feature = "fault")]
