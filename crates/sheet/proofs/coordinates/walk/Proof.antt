@@ -28,8 +28,7 @@ range-requires c κs = search needs
 
 ranged-requires : tie.Need-ranged-requires Inv-loop μ-loop
 ranged-requires c κs =
-    let loop = c .before .before .before .loop in
-    let loop = loop in (
+    let loop = c .before .before .before .loop in (
       loop .inv .counted,
       rw (c .range .ensures)
           (expects (loop .s) (loop .inv .steady) (sym (c .before .before .more .ensures) ∙ c .before .if1 .taken) .sound),
@@ -56,9 +55,8 @@ behind-requires c κs =
     let more = c .before .before .before .before .before .before .more in
     let if1 = c .before .before .before .before .before .if1 in
     let range = c .before .before .before .before .range in
-    let ranged = c .before .before .before .ranged in
-    let ranged = ranged in (
-      (sym (more .ensures) ∙ if1 .taken),
+    let ranged = c .before .before .before .ranged in (
+      sym (more .ensures) ∙ if1 .taken,
       walk-next (loop .inv) (sym (more .ensures) ∙ if1 .taken)
           (rw (range .ensures) at (ranged .ensures)) (c .before .step .given .1) .0,
     )
