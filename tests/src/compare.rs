@@ -18,7 +18,7 @@ use second::minimum_width::Minimum;
 use second::refusal::Refusal;
 
 pub use checking::judge;
-pub use format::{read, read_into, write, write_into};
+pub use format::{read, read_into, write, write_into, Format};
 pub use tally::{grouped, scale, Tally};
 
 /// The seven functions of a library, as documents 01 and 02 have them.
@@ -55,16 +55,13 @@ pub struct Outcome {
 /// misses of it, and the minimum width.
 pub fn sheet(library: &impl Library, bytes: &[u8]) -> Outcome {
     let mut random = Random::new(seed(bytes));
-    let _ = write(library, &pairs(bytes));
-    let _ = coordinates::write(library, &pairs(bytes));
+    for format in [Format::Sheet, Format::Coordinates] {
+        let _ = write(library, format, &pairs(bytes));
+    }
     let _ = coordinates::file(library, bytes);
-    match read(library, bytes) {
+    match read(library, Format::Sheet, bytes) {
         Ok(numbers) => {
-            let written = write(library, &numbers);
-            assert_eq!(written.as_deref(), Ok(bytes), "writing {numbers:?}");
-            for list in near::numbers(&mut random, &numbers) {
-                let _ = write(library, &list);
-            }
+            format::written_back(library, &mut random, Format::Sheet, bytes, &numbers);
             let sheet = Sheet::from_numbers(&numbers);
             let drawn = drawing::good(library, bytes, &sheet);
             if let Ok(drawn) = &drawn {
@@ -98,8 +95,12 @@ pub fn sheet(library: &impl Library, bytes: &[u8]) -> Outcome {
 /// gets a yes. There is nothing where the library has no such function.
 pub fn call(library: &impl Library, call: &Call) -> Option<Result<bool, Refusal>> {
     match call {
-        Call::Read { bytes, room } => Some(read_into(library, bytes, *room).map(|_| true)),
-        Call::Write { numbers, room } => Some(write_into(library, numbers, *room).map(|_| true)),
+        Call::Read { bytes, room } => {
+            Some(read_into(library, Format::Sheet, bytes, *room).map(|_| true))
+        }
+        Call::Write { numbers, room } => {
+            Some(write_into(library, Format::Sheet, numbers, *room).map(|_| true))
+        }
         Call::ReadNumber { .. } | Call::WriteNumber { .. } => None,
         Call::Check {
             bytes,
@@ -113,10 +114,10 @@ pub fn call(library: &impl Library, call: &Call) -> Option<Result<bool, Refusal>
         } => Some(drawing::into(library, bytes, *places, *list).map(|_| true)),
         Call::Narrowest { bytes } => Some(narrowest::told(library, bytes).map(|_| true)),
         Call::ReadDrawing { file, room } => {
-            Some(coordinates::read_into(library, file, *room).map(|_| true))
+            Some(read_into(library, Format::Coordinates, file, *room).map(|_| true))
         }
         Call::WriteDrawing { numbers, room } => {
-            Some(coordinates::write_into(library, numbers, *room).map(|_| true))
+            Some(write_into(library, Format::Coordinates, numbers, *room).map(|_| true))
         }
     }
 }

@@ -7,8 +7,8 @@ use answers::Answers;
 use library::Proved;
 use second::coordinates::PLACE_LIMIT;
 use second::refusal::Refusal;
-use strip_tests::compare::coordinates::{file, read, read_into, write, write_into};
-use strip_tests::compare::{self, scale, Library};
+use strip_tests::compare::coordinates::file;
+use strip_tests::compare::{self, read, scale, write, Format, Library};
 use strip_tests::damage::DAMAGES;
 use strip_tests::draft::Draft;
 use strip_tests::families::{conflicts, realistic, sizes};
@@ -39,10 +39,22 @@ fn files_by_hand() {
 
 #[test]
 fn a_place_that_is_not_right_of_its_left_neighbour() {
-    assert_eq!(write(&Proved, &[1, 2, 5, 6]), Ok(layer(&[5, 6])));
-    assert_eq!(write(&Proved, &[1, 2, 5, 5]), refused(4, 3));
-    assert_eq!(write(&Proved, &[1, 2, 5, 4]), refused(4, 3));
-    assert_eq!(write(&Proved, &[2, 1, 5, 2, 0, 0]), refused(4, 5));
+    assert_eq!(
+        write(&Proved, Format::Coordinates, &[1, 2, 5, 6]),
+        Ok(layer(&[5, 6]))
+    );
+    assert_eq!(
+        write(&Proved, Format::Coordinates, &[1, 2, 5, 5]),
+        refused(4, 3)
+    );
+    assert_eq!(
+        write(&Proved, Format::Coordinates, &[1, 2, 5, 4]),
+        refused(4, 3)
+    );
+    assert_eq!(
+        write(&Proved, Format::Coordinates, &[2, 1, 5, 2, 0, 0]),
+        refused(4, 5)
+    );
 }
 
 #[test]
@@ -51,12 +63,16 @@ fn every_place_and_the_distances_that_reach_and_pass_the_greatest() {
     for left in 0..=PLACE_LIMIT {
         let most = PLACE_LIMIT - left;
         for distance in [0, 1, most, most + 1, 4095, 4096, 16383] {
-            let answer = read(&Proved, &encode_file(&[1, 2, left, distance]));
+            let answer = read(
+                &Proved,
+                Format::Coordinates,
+                &encode_file(&[1, 2, left, distance]),
+            );
             assert_eq!(answer.is_ok(), (1..=most).contains(&distance));
             answers.count(&answer);
         }
         for place in [0, left.saturating_sub(1), left, left + 1, 4095, 4096, 65535] {
-            let answer = write(&Proved, &[1, 2, left, place]);
+            let answer = write(&Proved, Format::Coordinates, &[1, 2, left, place]);
             assert_eq!(answer.is_ok(), place > left && place <= PLACE_LIMIT);
             answers.count(&answer);
         }
@@ -74,7 +90,10 @@ fn good_files_are_read_and_written_back() {
     drawings.extend((0..20_000 * scale()).map(|_| any(&mut random)));
     for rows in drawings {
         let (numbers, bytes) = (rows.numbers(), rows.bytes());
-        assert_eq!(write(&Proved, &numbers).as_ref(), Ok(&bytes));
+        assert_eq!(
+            write(&Proved, Format::Coordinates, &numbers).as_ref(),
+            Ok(&bytes)
+        );
         let answer = file(&Proved, &bytes);
         assert_eq!(answer.as_ref(), Ok(&numbers));
         answers.count(&answer);
@@ -183,10 +202,10 @@ fn number_lists_near_good_ones_are_written() {
     for _ in 0..40_000 * scale() {
         let good = any(&mut random).numbers();
         let numbers = near_list(&mut random, good);
-        let written = write(&Proved, &numbers);
+        let written = write(&Proved, Format::Coordinates, &numbers);
         answers.count(&written);
         if let Ok(bytes) = written {
-            assert_eq!(read(&Proved, &bytes), Ok(numbers));
+            assert_eq!(read(&Proved, Format::Coordinates, &bytes), Ok(numbers));
         }
     }
     let least = [(0, 4_000), (1, 4_000), (4, 10_000), (6, 4_000)];
@@ -202,7 +221,7 @@ fn every_number_list_near_those_by_hand_is_written() {
         lists.extend(changed(numbers, changes));
         lists.push([numbers, &[1]].concat());
         for list in lists {
-            answers.count(&write(&Proved, &list));
+            answers.count(&write(&Proved, Format::Coordinates, &list));
         }
     }
     let least = [(0, 10), (1, 15), (4, 30), (6, 4)];
@@ -215,13 +234,7 @@ fn slices_of_every_length() {
     let mut answers = Answers::default();
     for _ in 0..300 * scale() {
         let rows = any(&mut random);
-        let (numbers, bytes) = (rows.numbers(), rows.bytes());
-        for length in 0..=numbers.len() + 2 {
-            answers.count(&read_into(&Proved, &bytes, length));
-        }
-        for length in 0..=bytes.len() + 2 {
-            answers.count(&write_into(&Proved, &numbers, length));
-        }
+        answers.count_lengths(&Proved, Format::Coordinates, &rows.numbers(), &rows.bytes());
     }
     answers.check("slices of files", &[(0, 1_800), (7, 10_000)]);
 }
@@ -235,9 +248,9 @@ fn inputs_and_slices_longer_than_any_file() {
             let tail: Vec<u16> = (0..length).map(|_| random.within(0..=1)).collect();
             let tail_bytes: Vec<u8> = tail.iter().map(|&n| n as u8).collect();
             let numbers = [rows.numbers(), tail].concat();
-            answers.count(&write(&Proved, &numbers));
+            answers.count(&write(&Proved, Format::Coordinates, &numbers));
             let bytes = [rows.bytes(), tail_bytes].concat();
-            answers.count(&read(&Proved, &bytes));
+            answers.count(&read(&Proved, Format::Coordinates, &bytes));
         }
         let (mut numbers, mut bytes) = (vec![77; 100_000], vec![77; 100_000]);
         let read = Proved.read_drawing(&rows.bytes(), &mut numbers);
@@ -256,7 +269,7 @@ fn sheets_and_files_are_not_each_other() {
     let mut random = Random::new(188);
     for _ in 0..1_000 * scale() {
         let sheet = any_sheet(&mut random).bytes();
-        assert_eq!(read(&Proved, &sheet), refused(2, 0));
+        assert_eq!(read(&Proved, Format::Coordinates, &sheet), refused(2, 0));
         let bytes = any(&mut random).bytes();
         let outcome = compare::sheet(&Proved, &bytes);
         assert_eq!(outcome.drawn, refused(2, 0));

@@ -5,7 +5,7 @@ mod library;
 
 use answers::Answers;
 use library::Proved;
-use strip_tests::compare::{self, scale, Library};
+use strip_tests::compare::{self, scale, Format, Library};
 use strip_tests::document;
 use strip_tests::draft::encode;
 use strip_tests::generate;
@@ -19,9 +19,12 @@ fn good_sheets_are_read_and_written_back() {
     let any = (0..20_000 * scale()).map(|_| generate::good(&mut random));
     for draft in any.chain((1..=64).map(generate::fullest)) {
         let bytes = draft.bytes();
-        let read = compare::read(&Proved, &bytes);
+        let read = compare::read(&Proved, Format::Sheet, &bytes);
         assert_eq!(read, Ok(draft.numbers()));
-        assert_eq!(compare::write(&Proved, &draft.numbers()), Ok(bytes));
+        assert_eq!(
+            compare::write(&Proved, Format::Sheet, &draft.numbers()),
+            Ok(bytes)
+        );
         answers.count(&read);
     }
     answers.check("good sheets read and written", &[(0, 20_064)]);
@@ -34,10 +37,10 @@ fn number_lists_near_good_ones_are_written() {
     for _ in 0..40_000 * scale() {
         let good = generate::good(&mut random).numbers();
         let numbers = near_list(&mut random, good);
-        let written = compare::write(&Proved, &numbers);
+        let written = compare::write(&Proved, Format::Sheet, &numbers);
         answers.count(&written);
         if let Ok(bytes) = written {
-            assert_eq!(compare::read(&Proved, &bytes), Ok(numbers));
+            assert_eq!(compare::read(&Proved, Format::Sheet, &bytes), Ok(numbers));
         }
     }
     let least = [(0, 4_000), (1, 4_000), (4, 8_000), (5, 500), (6, 4_000)];
@@ -54,7 +57,7 @@ fn every_number_list_near_those_of_the_document_is_written() {
         lists.extend(changed(&numbers, changes));
         lists.push([&numbers[..], &[1]].concat());
         for list in lists {
-            answers.count(&compare::write(&Proved, &list));
+            answers.count(&compare::write(&Proved, Format::Sheet, &list));
         }
     }
     let least = [(0, 100), (1, 100), (4, 500), (5, 5), (6, 12)];
@@ -76,7 +79,7 @@ fn bytes_near_good_ones_are_read() {
             let i = random.index(bytes.len());
             bytes[i] = random.within(0..=255) as u8;
         }
-        answers.count(&compare::read(&Proved, &bytes));
+        answers.count(&compare::read(&Proved, Format::Sheet, &bytes));
     }
     let least = [
         (0, 3_000),
@@ -96,15 +99,7 @@ fn slices_of_every_length() {
     let mut answers = Answers::default();
     for _ in 0..300 * scale() {
         let draft = generate::small(&mut random);
-        let (numbers, bytes) = (draft.numbers(), draft.bytes());
-        for length in 0..=numbers.len() + 2 {
-            let read = compare::read_into(&Proved, &bytes, length);
-            answers.count(&read);
-        }
-        for length in 0..=bytes.len() + 2 {
-            let written = compare::write_into(&Proved, &numbers, length);
-            answers.count(&written);
-        }
+        answers.count_lengths(&Proved, Format::Sheet, &draft.numbers(), &draft.bytes());
     }
     answers.check("slices", &[(0, 1_800), (7, 20_000)]);
 }
@@ -118,8 +113,8 @@ fn inputs_and_slices_longer_than_any_sheet() {
         for length in [1, 2, 2_055, 5_122, 70_000] {
             let tail: Vec<u16> = (0..length).map(|_| random.within(0..=1)).collect();
             let numbers = [draft.numbers(), tail].concat();
-            answers.count(&compare::write(&Proved, &numbers));
-            answers.count(&compare::read(&Proved, &encode(&numbers)));
+            answers.count(&compare::write(&Proved, Format::Sheet, &numbers));
+            answers.count(&compare::read(&Proved, Format::Sheet, &encode(&numbers)));
         }
         let (mut numbers, mut bytes) = (vec![77; 100_000], vec![77; 100_000]);
         let read = Proved.read(&draft.bytes(), &mut numbers);

@@ -1,7 +1,7 @@
-//! Counts of what readers and writers answer.
+//! What readers and writers answer, counted.
 
 use second::refusal::Refusal;
-use strip_tests::compare::grouped;
+use strip_tests::compare::{grouped, read_into, write_into, Format, Library};
 
 /// Counts of answers by the number of the refusal; 0 is none.
 #[derive(Default)]
@@ -12,6 +12,22 @@ impl Answers {
     pub fn count<T>(&mut self, answer: &Result<T, Refusal>) {
         let number = answer.as_ref().err().map_or(0, |refusal| refusal.number);
         self.0[number as usize] += 1;
+    }
+
+    /// Compares reading and writing with slices of every length up to two elements too many.
+    pub fn count_lengths(
+        &mut self,
+        library: &impl Library,
+        format: Format,
+        numbers: &[u16],
+        bytes: &[u8],
+    ) {
+        for length in 0..=numbers.len() + 2 {
+            self.count(&read_into(library, format, bytes, length));
+        }
+        for length in 0..=bytes.len() + 2 {
+            self.count(&write_into(library, format, numbers, length));
+        }
     }
 
     /// Prints the counts, and checks that answers have come up this many times.
