@@ -3,6 +3,7 @@
 
 mod files;
 mod items;
+mod variants;
 
 use crate::generate::LONGEST;
 use second::checker::check;

@@ -1,10 +1,9 @@
 //! Good and damaged coordinate files and their number lists, of all sizes, for the driver.
 
-use crate::damage::DAMAGES;
+use super::variants::{every_damage, lengths, lists, some_damage};
 use crate::files::{any, full, longest, side_by_side, Rows, GOOD, REFUSED};
-use crate::mutation::{byte_changes, changed, damages, truncated};
 use crate::random::Random;
-use second::coordinates::{read, NUMBER_LIMIT};
+use second::coordinates::read;
 
 /// All files.
 pub fn files() -> Vec<Vec<u8>> {
@@ -20,9 +19,7 @@ fn named() -> Vec<Vec<u8>> {
         Rows(vec![vec![0, 1], vec![0]]),
         Rows(vec![vec![300, 427, 4095]]),
     ] {
-        for (_, damaged) in damages(&rows.bytes(), byte_changes) {
-            named.extend(damaged);
-        }
+        named.extend(every_damage(&rows.bytes()));
     }
     named
 }
@@ -33,10 +30,7 @@ fn random() -> Vec<Vec<u8>> {
     let mut files = Vec::new();
     for i in 0..120 {
         let bytes = any(&mut random).bytes();
-        for (_, damage) in DAMAGES.iter().skip(i % 4).step_by(4) {
-            files.push(damage(&mut random, &bytes));
-        }
-        files.push(bytes);
+        files.extend(some_damage(&mut random, i, bytes));
     }
     files
 }
@@ -48,27 +42,12 @@ fn large() -> Vec<Vec<u8>> {
     let rows = full
         .into_iter()
         .chain([side_by_side(0), side_by_side(4032), longest()]);
-    let mut files = Vec::new();
-    for bytes in rows.map(|rows| rows.bytes()) {
-        files.push([bytes.as_slice(), &[0; 4096]].concat());
-        files.push(bytes[..bytes.len() - 1].to_vec());
-        files.push(bytes);
-    }
-    files
+    rows.flat_map(|rows| lengths(rows.bytes())).collect()
 }
 
 /// The number lists of the good files, and one of them damaged in every way.
 pub fn drawings(files: &[Vec<u8>]) -> Vec<Vec<u16>> {
     let rows = Rows(vec![vec![5, 6, 4094], vec![7]]).numbers();
     let changes = |n: u16| vec![0, 1, 64, 65, 4095, 4096, u16::MAX, n.wrapping_add(1)];
-    let mut lists = [truncated(&rows), changed(&rows, changes)].concat();
-    lists.push([rows.as_slice(), &[1]].concat());
-    for bytes in files {
-        let mut numbers = vec![0; NUMBER_LIMIT];
-        if let Ok(count) = read(bytes, &mut numbers) {
-            numbers.truncate(count);
-            lists.push(numbers);
-        }
-    }
-    lists
+    lists(&rows, changes, files, read)
 }

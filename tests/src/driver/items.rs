@@ -1,15 +1,14 @@
 //! Good and damaged sheets, coordinate files and number lists of all sizes, for the driver.
 
 use super::files::{drawings, files};
+use super::variants::{every_damage, lengths, lists, some_damage};
 use super::Item;
-use crate::damage::DAMAGES;
 use crate::document::{self, NO_DRAWING, ONE_NODE, REFUSED};
 use crate::examples::examples;
 use crate::generate::{fullest, good, small, tiny};
-use crate::mutation::{byte_changes, changed, damages, truncated};
 use crate::planted::{planted, Plan};
 use crate::random::Random;
-use second::sheet::{read, EDGE_LIMIT, NODE_LIMIT, NUMBER_LIMIT};
+use second::sheet::{read, EDGE_LIMIT, NODE_LIMIT};
 
 /// All items.
 pub fn items() -> Vec<Item> {
@@ -40,9 +39,7 @@ fn named() -> Vec<Vec<u8>> {
 fn damaged() -> Vec<Vec<u8>> {
     let mut sheets = Vec::new();
     for draft in [document::first(), document::two_over_three(1)] {
-        for (_, damaged) in damages(&draft.bytes(), byte_changes) {
-            sheets.extend(damaged);
-        }
+        sheets.extend(every_damage(&draft.bytes()));
     }
     sheets
 }
@@ -57,11 +54,7 @@ fn random() -> Vec<Vec<u8>> {
             1 => small(&mut random),
             _ => good(&mut random),
         };
-        let bytes = draft.bytes();
-        for (_, damage) in DAMAGES.iter().skip(i % 4).step_by(4) {
-            sheets.push(damage(&mut random, &bytes));
-        }
-        sheets.push(bytes);
+        sheets.extend(some_damage(&mut random, i, draft.bytes()));
     }
     sheets
 }
@@ -82,10 +75,7 @@ fn large() -> Vec<Vec<u8>> {
         }
     }
     for layers in [1, 4, 64] {
-        let bytes = fullest(layers).bytes();
-        sheets.push([bytes.as_slice(), &[0; 4096]].concat());
-        sheets.push(bytes[..bytes.len() - 1].to_vec());
-        sheets.push(bytes);
+        sheets.extend(lengths(fullest(layers).bytes()));
     }
     sheets
 }
@@ -94,14 +84,5 @@ fn large() -> Vec<Vec<u8>> {
 fn number_lists(sheets: &[Vec<u8>]) -> Vec<Vec<u16>> {
     let first = document::first().numbers();
     let changes = |n: u16| vec![0, 1, 64, 65, 513, 4096, 16384, u16::MAX, n.wrapping_add(1)];
-    let mut lists = [truncated(&first), changed(&first, changes)].concat();
-    lists.push([first.as_slice(), &[1]].concat());
-    for bytes in sheets {
-        let mut numbers = vec![0; NUMBER_LIMIT];
-        if let Ok(count) = read(bytes, &mut numbers) {
-            numbers.truncate(count);
-            lists.push(numbers);
-        }
-    }
-    lists
+    lists(&first, changes, sheets, read)
 }
