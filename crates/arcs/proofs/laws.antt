@@ -4,6 +4,10 @@ pub mod Packing
 pub mod Pairs
 pub mod Layers
 pub mod Edges
+pub mod TraceTable
+pub mod Strengths
+pub mod Gathering
+pub mod Taking
 pub mod FirstNodes
 pub mod Fill
 pub mod Load

@@ -1,5 +1,6 @@
 pub mod Fitting
 pub mod Loaded
+pub mod PackedEdges
 pub mod HeldArcs
 pub mod SheetLengths
 pub mod Widened

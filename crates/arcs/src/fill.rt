@@ -1,20 +1,23 @@
 // All arcs of a good sheet.
 use crate::Frame;
 use crate::Plan;
-use crate::edges::put_edges;
 use crate::layers::put_layers;
 use crate::numbers::number;
+use crate::traces::SLOTS;
+use crate::traces::gather;
+use crate::traces::put_edges;
 use sheet::layout::EDGES;
 use sheet::layout::WIDTH;
 ghost use mathlib.Core.Path.{_≡_};
 ghost use Prim.Native.Nat.{_+_, _*_, _≤_};
-ghost use lib.ListN.{length};
+ghost use lib.ListN.{length, replicate};
 ghost use Rattle.sheet.specs.Limits.{«max-nodes»};
 ghost use Rattle.network.specs.Packed.{stride};
 ghost use Rattle.drawing.specs.Sheet.{«sheet-of»};
 ghost use Rattle.drawing.specs.Arcs.{network};
 ghost use Rattle.drawing.specs.laws.Good.{Good};
 ghost use Rattle.arcs.specs.inside.Plans.{Planned, written};
+ghost use Rattle.arcs.specs.inside.Traces.{slots};
 
 // Writes the arcs of a sheet into the front of the slice, in the order of the certificate (document 01's pull
 // list): the edges, then the layers.
@@ -24,20 +27,33 @@ pub fn fill(numbers: &[u16], first: &[u16], plan: Plan, arcs: &mut [u32])
     requires { ⌜ stride * (plan .edges + 2 * plan .nodes) ≤ length (now arcs) ⌝ }
     ensures { λ _. ⌜ now (arcs .exit) ≡ written (network (sheet-of (now (numbers .entry)))) (now (arcs .entry)) ⌝ }
 {
+    let mut table = [0u8; SLOTS];
+    fill_with(numbers, first, plan, &mut table, arcs)
+}
+
+// The same with a table of zeros for the traces.
+fn fill_with(numbers: &[u16], first: &[u16], plan: Plan, table: &mut [u8], arcs: &mut [u32])
+    requires { ⌜ Good max-nodes (now numbers) ⌝ }
+    requires { ⌜ Planned (now numbers) (now first) plan ⌝ }
+    requires { ⌜ stride * (plan .edges + 2 * plan .nodes) ≤ length (now arcs) ⌝ }
+    requires { ⌜ now table ≡ replicate slots 0 ⌝ }
+    ensures { λ _. ⌜ now (arcs .exit) ≡ written (network (sheet-of (now (numbers .entry)))) (now (arcs .entry)) ⌝ }
+{
     let layers = plan.layers;
-    let ground = plan.nodes;
+    let start = plan.behind + EDGES;
     let width = number(numbers, WIDTH);
     let frame = Frame {
         width: width,
-        ground: ground,
+        ground: plan.nodes,
     };
+    gather(numbers, start, plan.edges, &first[0..layers + 1], table);
     let n = put_edges(
         numbers,
-        plan.behind + EDGES,
+        start,
         plan.edges,
         &first[0..layers + 1],
+        table,
         arcs,
-        0,
     );
     put_layers(numbers, layers, frame, arcs, n);
 }

@@ -1,19 +1,44 @@
-// The coordinates of nodes, and the lengths of packed edges.
+// The ends and weights of packed edges, the coordinates of nodes, and the lengths of edges, added.
 use crate::numbers::wide;
+use network::layout::FLOW_ZERO;
 use network::layout::HEAD;
+use network::layout::HIGH;
+use network::layout::HIGH_NONE;
 use network::layout::STRIDE;
 use network::layout::TAIL;
 ghost use mathlib.Core.Path.{_≡_};
-ghost use Prim.Native.Nat.{_+_, _≤_, _<_, min};
-ghost use lib.ListN.{length, getD, drop};
+ghost use Prim.Native.Nat.{_+_, _*_, _≤_, _<_, min};
+ghost use lib.ListN.{length, getD};
 ghost use Rattle.network.specs.Packed.{stride};
 ghost use Rattle.drawing.specs.Drawing.{coordinate};
 ghost use Rattle.leb128.specs.Limits.{«list-limit»};
 ghost use Rattle.arcs.specs.Words.{Small, «u32-most»};
-ghost use Rattle.arcs.specs.Lengths.{distance, «length-at», «lengths-of»};
+ghost use Rattle.arcs.specs.Lengths.{«edge-from», «upper-at», «lower-at», «weight-of», «weight-at»};
+ghost use Rattle.arcs.specs.Lengths.{distance, «counted-at», «lengths-of»};
 
 // The greatest number of 32 bits.
 const MOST: usize = 4294967295;
+
+// The upper end of packed edge i; where there is no such edge, 0.
+pub fn edge_upper(arcs: &[u32], i: usize) -> u32
+    ensures { λ r. ⌜ r ≡ upper-at (edge-from i (now (arcs .entry))) ⌝ }
+{
+    field(arcs, i, TAIL)
+}
+
+// The lower end of packed edge i; where there is no such edge, 0.
+pub fn edge_lower(arcs: &[u32], i: usize) -> u32
+    ensures { λ r. ⌜ r ≡ lower-at (edge-from i (now (arcs .entry))) ⌝ }
+{
+    field(arcs, i, HEAD)
+}
+
+// The weight of packed edge i, which its length is multiplied by; that of a straight edge, and where there is no such edge, is 0.
+pub fn edge_weight(arcs: &[u32], i: usize) -> u32
+    ensures { λ r. ⌜ r ≡ weight-at (edge-from i (now (arcs .entry))) ⌝ }
+{
+    weight(field(arcs, i, HIGH))
+}
 
 // The coordinate (place) of a node; where there is none, as at ground, it is 0.
 pub fn place(places: &[u16], v: usize) -> usize
@@ -23,6 +48,55 @@ pub fn place(places: &[u16], v: usize) -> usize
         return wide(places[v]);
     }
     0
+}
+
+// The total of packed edges: their lengths (runs) times their weights, added; it stays at the greatest number of 32 bits.
+pub fn total(arcs: &[u32], places: &[u16]) -> u32
+    ensures { λ r. ⌜ r ≡ min u32-most (lengths-of (now (places .entry)) (now (arcs .entry))) ⌝ }
+{
+    let mut sum = 0;
+    let mut i = 0;
+    let mut left = arcs.len() / STRIDE;
+    while left > 0 {
+        sum = capped(sum, counted(arcs, places, i));
+        i += 1;
+        left -= 1;
+    }
+    sum as u32
+}
+
+// A number of packed edge i; where there is no such edge, 0.
+fn field(arcs: &[u32], i: usize, at: usize) -> u32
+    requires { ⌜ at < stride ⌝ }
+    ensures { λ r. ⌜ r ≡ getD (edge-from i (now (arcs .entry))) at 0 ⌝ }
+{
+    if arcs.len() / STRIDE <= i {
+        return 0;
+    }
+    arcs[STRIDE * i + at]
+}
+
+// The weight that a high limit stands for.
+fn weight(high: u32) -> u32
+    ensures { λ r. ⌜ r ≡ weight-of high ⌝ }
+{
+    if high == HIGH_NONE {
+        return 0;
+    }
+    if high < FLOW_ZERO {
+        return 0;
+    }
+    high - FLOW_ZERO
+}
+
+// What packed edge i counts at these places: its length times its weight.
+fn counted(arcs: &[u32], places: &[u16], i: usize) -> usize
+    ensures { λ r. ⌜ r ≡ counted-at (now (places .entry)) (edge-from i (now (arcs .entry))) ⌝ }
+{
+    let upper = place(places, edge_upper(arcs, i) as usize);
+    let lower = place(places, edge_lower(arcs, i) as usize);
+    let weight = edge_weight(arcs, i) as usize;
+    weight * distance(upper, lower)
 }
 
 // The distance of two coordinates.
@@ -36,46 +110,13 @@ fn distance(a: usize, b: usize) -> usize
     a - b
 }
 
-// The node that stands at an index of the packed arcs.
-fn node(arcs: &[u32], at: usize) -> usize
-    requires { ⌜ at < length (now arcs) ⌝ }
-    ensures { λ r. ⌜ r ≡ getD (now (arcs .entry)) at 0 ⌝ }
-{
-    arcs[at] as usize
-}
-
-// The length of the edge whose packed arc starts at an index.
-fn length_at(arcs: &[u32], places: &[u16], at: usize) -> usize
-    requires { ⌜ at + stride ≤ length (now arcs) ⌝ }
-    ensures { λ r. ⌜ Small r (length-at (now (places .entry)) (drop at (now (arcs .entry)))) ⌝ }
-{
-    let tail = place(places, node(arcs, at + TAIL));
-    let head = place(places, node(arcs, at + HEAD));
-    distance(tail, head)
-}
-
 // A sum that stays at the greatest number of 32 bits.
 fn capped(sum: usize, x: usize) -> usize
-    requires { ⌜ (sum ≤ u32-most) × (x < list-limit) ⌝ }
+    requires { ⌜ sum ≤ u32-most ⌝ }
     ensures { λ r. ⌜ r ≡ min u32-most (sum + x) ⌝ }
 {
     if MOST - sum < x {
         return MOST;
     }
     sum + x
-}
-
-// The total of packed edges: their lengths (runs), added; it stays at the greatest number of 32 bits.
-pub fn total(arcs: &[u32], places: &[u16]) -> u32
-    ensures { λ r. ⌜ r ≡ min u32-most (lengths-of (now (places .entry)) (now (arcs .entry))) ⌝ }
-{
-    let mut sum = 0;
-    let mut at = 0;
-    let mut left = arcs.len() / STRIDE;
-    while left > 0 {
-        sum = capped(sum, length_at(arcs, places, at));
-        at += STRIDE;
-        left -= 1;
-    }
-    sum as u32
 }

@@ -1,4 +1,5 @@
-// The arcs of a sheet's network, loaded into a lent slice in the packed layout, at any width, and the lengths of its edges.
+// The arcs of a sheet's network, loaded into a lent slice in the packed layout, at any width; the ends and weights of
+// packed edges, and their total.
 mod edges;
 mod fill;
 mod layers;
@@ -7,6 +8,7 @@ pub mod limits;
 mod numbers;
 mod pack;
 mod planning;
+mod traces;
 mod widths;
 
 use crate::fill::fill;
@@ -14,6 +16,9 @@ use crate::planning::plan;
 use leb128::Answer;
 use leb128::Refusal;
 use leb128::refusals::SLICE_SHORT;
+pub use lengths::edge_lower;
+pub use lengths::edge_upper;
+pub use lengths::edge_weight;
 pub use lengths::place;
 pub use lengths::total;
 use network::layout::STRIDE;
@@ -61,6 +66,13 @@ struct PackedArc {
     kink: u32,
     low: u32,
     high: u32,
+}
+
+// An edge off its numbers: its ends, and its strength.
+struct ReadEdge {
+    upper: usize,
+    lower: usize,
+    strength: u8,
 }
 
 // What bounds every layer: the width of a drawing, and the ground, which is the node behind the last one.

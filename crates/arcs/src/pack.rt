@@ -10,6 +10,7 @@ use network::layout::LOW;
 use network::layout::LOW_NONE;
 use network::layout::STRIDE;
 use network::layout::TAIL;
+use sheet::limits::MAX_WEIGHT;
 ghost use mathlib.Core.Path.{_≡_};
 ghost use mathlib.Core.List.{[], _∷_};
 ghost use Prim.Native.Nat.{_+_, _*_, _≤_, _<_};
@@ -17,8 +18,9 @@ ghost use lib.ListN.{length};
 ghost use Rattle.leb128.specs.inside.Storing.{Puts};
 ghost use Rattle.sheet.specs.Limits.{«max-nodes»};
 ghost use Rattle.network.specs.Packed.{stride, packs, «kink-zero», «flow-zero», «high-none»};
-ghost use Rattle.drawing.specs.Arcs.{«edge-arc-between», «maximum-arc»};
+ghost use Rattle.drawing.specs.Arcs.{«maximum-arc»};
 ghost use Rattle.arcs.specs.inside.Pieces.{«arc-numbers»};
+ghost use Rattle.arcs.specs.inside.Traces.{«strength-arc»};
 
 // Writes an arc at an index; answers the index behind it.
 pub fn put_arc(arcs: &mut [u32], at: usize, arc: PackedArc) -> usize
@@ -33,18 +35,19 @@ pub fn put_arc(arcs: &mut [u32], at: usize, arc: PackedArc) -> usize
     at + STRIDE
 }
 
-// The arc of an edge: a plain one costs its length, a straight one allows none.
-pub fn edge(upper: usize, lower: usize, kind: usize) -> PackedArc
+// The arc of an edge of this strength: a plain one costs its length times that, a straight one allows none.
+pub fn strength_arc(upper: usize, lower: usize, strength: u8) -> PackedArc
     requires { ⌜ (upper < max-nodes) × (lower < max-nodes) ⌝ }
-    ensures { λ r. ⌜ arc-numbers r ≡ packs (edge-arc-between kind upper lower ∷ []) ⌝ }
+    ensures { λ r. ⌜ arc-numbers r ≡ packs (strength-arc strength upper lower ∷ []) ⌝ }
 {
-    if kind == 0 {
+    let amount = strength as u32;
+    if amount <= MAX_WEIGHT {
         return PackedArc {
             tail: upper as u32,
             head: lower as u32,
             kink: KINK_ZERO as u32,
-            low: FLOW_ZERO - 1,
-            high: FLOW_ZERO + 1,
+            low: FLOW_ZERO - amount,
+            high: FLOW_ZERO + amount,
         };
     }
     PackedArc {

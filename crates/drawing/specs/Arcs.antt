@@ -3,18 +3,19 @@
 use mathlib.Core.List.{List, [], _∷_, _++_, map, flatMap}
 use Prim.Native.Nat.{ℕ, zero, suc, _+_}
 use lib.ListN.{length}
-use lib.IntN.{pos, negsuc, negℤ}
+use lib.IntN.{pos, negℤ}
 use Rattle.network.specs.Network.{unlimited, limit, Arc, Network, upper-bound}
 use Rattle.drawing.specs.Sheet.{Pair, Layer, Edge, Sheet}
+use Rattle.drawing.specs.Traces.{traces}
 
--- an edge between two nodes, by its kind: a plain one costs its length, a straight one allows none
-abbrev pub edge-arc-between : ℕ → ℕ → ℕ → Arc
-edge-arc-between zero u v = record { tail = u; head = v; kink = pos 0; low = limit (negsuc 0); high = limit (pos 1) }
-edge-arc-between (suc kind) u v = record { tail = u; head = v; kink = pos 0; low = unlimited; high = unlimited }
+-- an edge between two nodes, by its kind and weight: a plain one costs its length times the weight, a straight one allows none
+abbrev pub edge-arc-between : ℕ → ℕ → ℕ → ℕ → Arc
+edge-arc-between zero weight u v = record { tail = u; head = v; kink = pos 0; low = limit (negℤ (pos weight)); high = limit (pos weight) }
+edge-arc-between (suc kind) weight u v = record { tail = u; head = v; kink = pos 0; low = unlimited; high = unlimited }
 
 -- the arc of an edge; its flow is the pull
 abbrev pub edge-arc : Edge → Arc
-edge-arc e = edge-arc-between (e .kind) (e .upper) (e .lower)
+edge-arc e = edge-arc-between (e .kind) (e .weight) (e .upper) (e .lower)
 
 -- the arc of a minimum separation
 abbrev pub minimum-arc : Pair → Arc
@@ -34,6 +35,6 @@ abbrev pub layer-arcs : ℕ → ℕ → Layer → List Arc
 layer-arcs width ground l =
     upper-bound (l .first) ground (pos 0) ∷ flatMap separation-arcs (l .pairs) ++ upper-bound ground (l .first + length (l .pairs)) (pos width) ∷ []
 
--- the arcs of the edges, then those of the layers
+-- the arcs of the traces, then those of the layers
 unfoldable pub network : Sheet → Network
-network S = record { nodes = S .nodes; arcs = map edge-arc (S .edges) ++ flatMap (layer-arcs (S .width) (S .nodes)) (S .layers) }
+network S = record { nodes = S .nodes; arcs = map edge-arc (traces (S .edges)) ++ flatMap (layer-arcs (S .width) (S .nodes)) (S .layers) }

@@ -3,7 +3,7 @@
 use mathlib.Core.Path.{_≡_}
 use mathlib.Core.List.{List, [], _∷_, map}
 use mathlib.Core.Bool.{Bool, true, _&&_, cond}
-use Prim.Native.Nat.{ℕ, zero, suc, _≤_}
+use Prim.Native.Nat.{ℕ, zero, suc, _*_, _≤_}
 use lib.Dec.{T}
 use lib.ListN.{length}
 use lib.IntN.{ℤ, pos, _+ℤ_, _-ℤ_, natAbs}
@@ -12,6 +12,7 @@ use Rattle.network.specs.Integers.{eqZ, gap}
 use Rattle.network.specs.Sums.{sumℕ, all}
 use Rattle.network.specs.Network.{potential}
 use Rattle.drawing.specs.Sheet.{Pair, Edge, Sheet}
+use Rattle.drawing.specs.Traces.{traces}
 
 -- the lesser of two
 abbrev pub lesser : ℤ → ℤ → ℤ
@@ -66,9 +67,13 @@ pub record Assignment (S : Sheet) (x : List ℤ) : Type 0 where
 abbrev pub edge-lengthZ : List ℤ → Edge → ℕ
 edge-lengthZ x e = natAbs (potential x (e .lower) -ℤ potential x (e .upper))
 
--- the total (horizontal) length
+-- what an edge counts in the total
+abbrev pub weighted-lengthZ : List ℤ → Edge → ℕ
+weighted-lengthZ x e = e .weight * edge-lengthZ x e
+
+-- the total (horizontal) length, over all traces
 unfoldable pub total-lengthZ : Sheet → List ℤ → ℕ
-total-lengthZ S x = sumℕ (edge-lengthZ x) (S .edges)
+total-lengthZ S x = sumℕ (weighted-lengthZ x) (traces (S .edges))
 
 -- every assignment has at least this one's total length
 pub record LeastAssignment (S : Sheet) (x : List ℤ) : Type 0 where

@@ -4,11 +4,12 @@ use mathlib.Core.List.{List, [], _∷_}
 use mathlib.Core.Bool.{Bool, true, _&&_}
 use Prim.Native.Nat.{ℕ, zero, suc, _+_, _*_}
 use lib.ListN.{length, getD, drop}
-use lib.IntN.{ℤ, pos, negsuc, _+ℤ_, _-ℤ_, _*ℤ_}
+use lib.IntN.{ℤ, pos, negℤ, _+ℤ_, _-ℤ_, _*ℤ_}
 use lib.Signed.{leZ}
 use Rattle.network.specs.Integers.{eqZ}
 use Rattle.network.specs.Sums.{sum, all, only, below}
 use Rattle.drawing.specs.Sheet.{Pair, Layer, Edge, Sheet}
+use Rattle.drawing.specs.Traces.{traces}
 
 -- an edge and its multiplier (pull)
 pub record EdgeTerm : Type 0 where
@@ -52,18 +53,18 @@ abbrev pub layer-terms : List Layer → List ℤ → List LayerTerm
 layer-terms [] y = []
 layer-terms (l ∷ ls) y = layer-term l y ∷ layer-terms ls (drop (2 + 2 * length (l .pairs)) y)
 
--- the list in its order: edges, then layers
+-- the list in its order: edges, each with what it carries of its trace, then layers
 abbrev pub certificate : Sheet → List ℤ → Certificate
-certificate S y = record { edges = edge-terms (S .edges) y; layers = layer-terms (S .layers) (drop (length (S .edges)) y) }
+certificate S y = record { edges = edge-terms (traces (S .edges)) y; layers = layer-terms (S .layers) (drop (length (S .edges)) y) }
 
 -- the count of the numbers: that of the edges, and twice that of the nodes
 abbrev pub certificate-size : Sheet → ℕ
 certificate-size S = length (S .edges) + 2 * S .nodes
 
--- a plain edge's is −1, 0 or 1; a straight edge's is free
-abbrev pub edge-limits : ℕ → ℤ → Bool
-edge-limits zero y = leZ (negsuc 0) y && leZ y (pos 1)
-edge-limits (suc kind) y = true
+-- a plain edge's is from minus to plus its weight, so that of an edge that carries nothing is 0; a straight edge's is free
+abbrev pub edge-limits : ℕ → ℕ → ℤ → Bool
+edge-limits zero weight y = leZ (negℤ (pos weight)) y && leZ y (pos weight)
+edge-limits (suc kind) weight y = true
 
 -- a maximum's is 0 where none is set
 abbrev pub unset-limit : ℕ → ℤ → Bool
@@ -80,7 +81,7 @@ layer-limits l = leZ (pos 0) (l .left) && (all pair-limits (l .pairs) && leZ (po
 
 -- every number is within its limits
 abbrev pub limits : Certificate → Bool
-limits c = all (λ e. edge-limits (e .edge .kind) (e .amount)) (c .edges) && all layer-limits (c .layers)
+limits c = all (λ e. edge-limits (e .edge .kind) (e .edge .weight) (e .amount)) (c .edges) && all layer-limits (c .layers)
 
 -- a layer's last node
 abbrev pub last-node : Layer → ℕ

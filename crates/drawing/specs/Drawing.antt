@@ -1,5 +1,5 @@
 -- Document 01, "Drawing and total".
-use Prim.Native.Nat.{ℕ, zero, suc, _+_, _-_}
+use Prim.Native.Nat.{ℕ, zero, suc, _+_, _-_, _*_}
 use mathlib.Core.Path.{_≡_}
 use mathlib.Core.Bool.{Bool, true, _&&_}
 use mathlib.Core.List.{List}
@@ -8,6 +8,7 @@ use lib.ListN.{length, getD}
 use Rattle.network.specs.Sums.{all, sumℕ}
 use Rattle.network.specs.Least.{LeastOf, LeftmostOf}
 use Rattle.drawing.specs.Sheet.{Pair, Edge, Sheet}
+use Rattle.drawing.specs.Traces.{traces}
 
 -- the coordinate (place) of node v
 abbrev pub coordinate : List ℕ → ℕ → ℕ
@@ -54,9 +55,13 @@ NoDrawing S = (q : List ℕ) → Drawing S q → ⊥
 abbrev pub edge-length : List ℕ → Edge → ℕ
 edge-length p e = (coordinate p (e .lower) - coordinate p (e .upper)) + (coordinate p (e .upper) - coordinate p (e .lower))
 
--- the total: the sum over all edges
+-- what an edge counts in the total
+abbrev pub weighted-length : List ℕ → Edge → ℕ
+weighted-length p e = e .weight * edge-length p e
+
+-- the total: the sum over all traces
 unfoldable pub total-length : Sheet → List ℕ → ℕ
-total-length S p = sumℕ (edge-length p) (S .edges)
+total-length S p = sumℕ (weighted-length p) (traces (S .edges))
 
 -- demand 3: every other drawing of that sheet has at least as large a total
 abbrev pub LeastDrawing : Sheet → List ℕ → Type 0

@@ -1,5 +1,6 @@
 pub mod Sheet
 pub mod Proper
+pub mod Traces
 pub mod Drawing
 pub mod Widths
 pub mod CoordinateFile

@@ -4,10 +4,10 @@ use mathlib.Core.Bool.{Bool, true, _&&_}
 use lib.Dec.{T, ltb, leb}
 use lib.ListN.{length}
 use Rattle.network.specs.Sums.{all}
-use Rattle.sheet.specs.Limits.{max-width, max-nodes, max-separation, max-edges, max-kind}
+use Rattle.sheet.specs.Limits.{max-width, max-nodes, max-separation, max-edges, max-kind, max-weight}
 use Rattle.drawing.specs.Sheet.{Pair, Edge, Sheet}
 
--- the greatest total: 512 edges of 4,095 steps
+-- the greatest total: 512 traces of 4,095 steps
 abbrev pub max-total : ℕ
 max-total = 2096640
 
@@ -25,7 +25,7 @@ proper-pair n x =
 
 -- the limits of an edge between n nodes
 abbrev pub proper-edge : ℕ → Edge → Bool
-proper-edge n e = (ltb (e .upper) n && ltb (e .lower) n) && leb (e .kind) max-kind
+proper-edge n e = (ltb (e .upper) n && ltb (e .lower) n) && (leb (e .kind) max-kind && leb (e .weight) max-weight)
 
 -- the limits of a sheet
 pub record Proper (S : Sheet) : Type 0 where

@@ -26,7 +26,7 @@ pub record Row : Type 0 where
   pub bytes : List ℕ
   pub outcome : Outcome
 
--- the coordinates are the sheet's leftmost least drawing, the total is the sum of its lengths, and the list, of full length,
+-- the coordinates are the sheet's leftmost least drawing, the total is that of its traces, and the list, of full length,
 -- gets a yes
 pub record Drawn (S : Sheet) (total : ℕ) (coordinates : List ℕ) (list : List ℤ) : Type 0 where
   pub leftmost : LeftmostDrawing S coordinates

@@ -16,11 +16,12 @@ pub record Layer : Type 0 where
   pub first : ℕ
   pub pairs : List Pair
 
--- an edge (lead) from a node to one in the next layer; kind 0 is plain, any other straight
+-- an edge (lead) from a node to one in the next layer; kind 0 is plain, any other straight; its length counts weight times
 pub record Edge : Type 0 where
   pub upper : ℕ
   pub lower : ℕ
   pub kind : ℕ
+  pub weight : ℕ
 
 -- a sheet: the width, how many nodes, the layers and the edges
 pub record Sheet : Type 0 where
@@ -55,6 +56,7 @@ edge-of first s =
       upper = node-at first (getD s edge-layer-at 0) (getD s edge-upper-at 0);
       lower = node-at first (getD s edge-layer-at 0 + 1) (getD s edge-lower-at 0);
       kind = getD s edge-kind-at 0;
+      weight = 1;
     }
 
 -- n edges, of the numbers from the first edge on

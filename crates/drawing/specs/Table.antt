@@ -1,4 +1,5 @@
--- The marked sheets of document 01, "Sheets on either side of each edge", as one table, from their bytes to the outcome.
+-- The marked sheets of document 01, "Sheets on either side of each edge", as one table, from their bytes to the outcome, with
+-- more of document 02, ticket 4.
 use Prim.Native.Nat.{ℕ}
 use mathlib.Core.List.{List, [], _∷_}
 use lib.IntN.{ℤ, pos, negsuc}
@@ -22,9 +23,13 @@ crossed-edges = 0x53 ∷ 0x50 ∷ 0x31 ∷ 0xff ∷ 0x1f ∷ 2 ∷ 2 ∷ 1 ∷ 0
 abbrev pub wide : ℕ → List ℕ
 wide maximum = 0x53 ∷ 0x50 ∷ 0x31 ∷ 2 ∷ 2 ∷ 2 ∷ 1 ∷ maximum ∷ 3 ∷ 1 ∷ 0 ∷ 1 ∷ 0 ∷ 2 ∷ 1 ∷ 1 ∷ 1 ∷ 0 ∷ 1 ∷ 2 ∷ 3 ∷ 0 ∷ []
 
--- one node over three
-abbrev pub over : List ℕ
-over = 0x53 ∷ 0x50 ∷ 0x31 ∷ 2 ∷ 2 ∷ 1 ∷ 3 ∷ 1 ∷ 0 ∷ 1 ∷ 0 ∷ 3 ∷ 1 ∷ 1 ∷ 1 ∷ 0 ∷ 1 ∷ 1 ∷ 3 ∷ 0 ∷ 1 ∷ 1 ∷ 3 ∷ 0 ∷ []
+-- one node over three, by the kind of the last of its two parallel edges
+abbrev pub over : ℕ → List ℕ
+over kind = 0x53 ∷ 0x50 ∷ 0x31 ∷ 2 ∷ 2 ∷ 1 ∷ 3 ∷ 1 ∷ 0 ∷ 1 ∷ 0 ∷ 3 ∷ 1 ∷ 1 ∷ 1 ∷ 0 ∷ 1 ∷ 1 ∷ 3 ∷ 0 ∷ 1 ∷ 1 ∷ 3 ∷ kind ∷ []
+
+-- the same with another edge between the parallel ones
+abbrev pub over-between : List ℕ
+over-between = 0x53 ∷ 0x50 ∷ 0x31 ∷ 2 ∷ 2 ∷ 1 ∷ 3 ∷ 1 ∷ 0 ∷ 1 ∷ 0 ∷ 3 ∷ 1 ∷ 1 ∷ 3 ∷ 0 ∷ 1 ∷ 1 ∷ 1 ∷ 0 ∷ 1 ∷ 1 ∷ 3 ∷ 0 ∷ []
 
 -- one node
 abbrev pub lone : List ℕ
@@ -41,6 +46,10 @@ abbrev pub +0 : ℤ
 -- a multiplier of 1
 abbrev pub +1 : ℤ
 +1 = pos 1
+
+-- a multiplier of 2
+abbrev pub +2 : ℤ
++2 = pos 2
 
 -- a multiplier of −1
 abbrev pub −1 : ℤ
@@ -68,6 +77,9 @@ table =
     ∷ row crossed-edges (undrawable (+1 ∷ −1 ∷ +0 ∷ +1 ∷ +0 ∷ +0 ∷ +0 ∷ +1 ∷ +0 ∷ +0 ∷ []))
     ∷ row (wide 1) (drawn 1 (0 ∷ 1 ∷ 0 ∷ 1 ∷ 2 ∷ []) (−1 ∷ +1 ∷ +0 ∷ +0 ∷ +1 ∷ +0 ∷ +0 ∷ +1 ∷ +0 ∷ +1 ∷ +0 ∷ +0 ∷ []))
     ∷ row (wide 0) (drawn 0 (0 ∷ 2 ∷ 0 ∷ 1 ∷ 2 ∷ []) (zeros 12))
-    ∷ row over (drawn 2 (2 ∷ 0 ∷ 1 ∷ 2 ∷ []) (−1 ∷ +1 ∷ +0 ∷ +0 ∷ +0 ∷ +0 ∷ +1 ∷ +0 ∷ +1 ∷ +0 ∷ +0 ∷ []))
+    ∷ row (over 0) (drawn 2 (0 ∷ 0 ∷ 1 ∷ 2 ∷ []) (−1 ∷ +1 ∷ +0 ∷ +0 ∷ +0 ∷ +0 ∷ +1 ∷ +0 ∷ +1 ∷ +0 ∷ +0 ∷ []))
+    ∷ row over-between (drawn 2 (0 ∷ 0 ∷ 1 ∷ 2 ∷ []) (+1 ∷ −1 ∷ +0 ∷ +0 ∷ +0 ∷ +0 ∷ +1 ∷ +0 ∷ +1 ∷ +0 ∷ +0 ∷ []))
+    ∷ row (over 1) (drawn 2 (2 ∷ 0 ∷ 1 ∷ 2 ∷ []) (−1 ∷ +2 ∷ +0 ∷ +0 ∷ +1 ∷ +1 ∷ +2 ∷ +0 ∷ +2 ∷ +0 ∷ +0 ∷ []))
+    ∷ row (over 1) (rejected (2 ∷ 0 ∷ 1 ∷ 2 ∷ []) (−1 ∷ +0 ∷ +2 ∷ +0 ∷ +1 ∷ +1 ∷ +2 ∷ +0 ∷ +2 ∷ +0 ∷ +0 ∷ []))
     ∷ row lone (drawn 0 (0 ∷ []) (zeros 2))
     ∷ []

@@ -1,3 +1,9 @@
+pub mod TraceExamples
+pub mod Traces
+pub mod Carriers
+pub mod CarriedTraces
+pub mod ApartEdges
+pub mod ProperEdges
 pub mod Terms
 pub mod SameRules
 pub mod ArcTests

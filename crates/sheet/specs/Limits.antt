@@ -1,4 +1,4 @@
--- The limits of document 01, "The sheet", and of document 02, ticket 3, each once.
+-- The limits of document 01, "The sheet", and of document 02, tickets 3 and 4, each once.
 use Prim.Native.Nat.{ℕ, _+_, _*_}
 use mathlib.Core.List.{List, [], _∷_}
 use lib.ListN.{length}
@@ -39,6 +39,10 @@ max-edges = 512
 -- the kind of an edge: 0 plain, 1 straight
 abbrev pub max-kind : ℕ
 max-kind = 1
+
+-- the weight of an edge: how many times its length counts
+abbrev pub max-weight : ℕ
+max-weight = 1
 
 -- the numbers of a sheet
 abbrev pub max-numbers : ℕ

@@ -24,6 +24,9 @@ pub const MAX_EDGES: u32 = 512;
 // The kind of an edge: 0 plain, 1 straight.
 pub const MAX_KIND: u32 = 1;
 
+// The weight of an edge.
+pub const MAX_WEIGHT: u32 = 1;
+
 // The numbers of a sheet.
 pub const MAX_NUMBERS: usize = 2559;
 

@@ -1,23 +1,19 @@
--- The arcs of edges, written one after the other: the numbers of an edge give its arc, and each edge is a part of what is left.
-use Prim.Native.Nat.{ℕ, zero, suc, _+_, _-_, _*_, _≤_, _<_}
-use mathlib.Core.Path.{_≡_, _∙_, ap}
-use mathlib.Core.List.{List, [], _∷_, map}
+-- The numbers of an edge give its ends and its strength, and good edges are good one by one.
+use Prim.Native.Nat.{ℕ, zero, suc, _+_, _*_, _≤_, _<_}
+use mathlib.Core.Path.{_≡_, refl, _∙_}
+use mathlib.Core.List.{List}
 use native.Mathlib.Omega.{arith}
 use lib.ListN.{length, getD, drop}
 use lib.Seq.{drop-drop}
 use Rattle.leb128.specs.Limits.{list-limit}
-use Rattle.leb128.specs.inside.Storing.{Puts}
-use Rattle.leb128.specs.laws.Storing.{Left, left-end}
-use Rattle.sheet.specs.Limits.{max-nodes}
+use Rattle.sheet.specs.Limits.{max-weight}
 use Rattle.sheet.specs.Layout.{edge-stride, edge-layer-at, edge-upper-at, edge-lower-at, edge-kind-at}
-use Rattle.network.specs.Packed.{stride, packs}
-use Rattle.network.specs.laws.PackedBack.{packs-length}
-use Rattle.drawing.specs.Sheet.{node-at, edge-of, edges-of}
-use Rattle.drawing.specs.Arcs.{edge-arc-between, edge-arc}
+use Rattle.drawing.specs.Sheet.{node-at, edge-of}
 use Rattle.drawing.specs.laws.Good.{GoodEdge, GoodEdges}
+use Rattle.arcs.specs.inside.Traces.{strength-of, as-read}
+use Rattle.arcs.specs.declared.ReadEdge.{ReadEdge}
 use Rattle.arcs.specs.Words.{Small}
-use Rattle.arcs.proofs.laws.Packing.{left-arcs}
-use Rattle.arcs.proofs.laws.Numbers.{less-one, number-behind}
+use Rattle.arcs.proofs.laws.Numbers.{number-behind}
 
 -- the four numbers of the edge at an index
 module _ {n : ℕ} {first : List ℕ} (at : ℕ) (s : List ℕ) (g : GoodEdge n first (drop at s)) {layer above below kind : ℕ}
@@ -52,59 +48,21 @@ module _ {n : ℕ} {first : List ℕ} (at : ℕ) (s : List ℕ) (g : GoodEdge n 
     pub ends-few : (upper < n) × (lower < n)
     ends-few = (rw (e5, layer-is, above-is) (g .upper), rw (e6, layer-is, below-is) (g .lower))
 
-    -- the arc between them is the edge's
-    pub edge-puts : {a b x : List ℕ} {i m : ℕ} → x ≡ packs (edge-arc-between kind upper lower ∷ []) → Puts a i x b m
-        → Puts a i (packs (edge-arc (edge-of first (drop at s)) ∷ [])) b m
-    edge-puts e7 x = rw (e7, e5, e6, layer-is, above-is, below-is, kind-is) at x
+    -- the edge
+    pub edge-is : {amount : ℕ} → amount ≡ strength-of kind 1
+        → _≡_ {A = ReadEdge} (record { upper = upper; lower = lower; strength = amount }) (as-read (edge-of first (drop at s)))
+    edge-is e7 = rw (e7, e5, e6, layer-is, above-is, below-is, kind-is)
 
--- the first of some edges, and the others
-edges-next : (first : List ℕ) (k at : ℕ) (s : List ℕ) → 0 < k
-    → map edge-arc (edges-of first k (drop at s))
-    ≡ edge-arc (edge-of first (drop at s)) ∷ map edge-arc (edges-of first (k - 1) (drop (at + edge-stride) s))
-edges-next first zero at s h = absurd (omega arith)
-edges-next first (suc k) at s h =
-    ap (λ (t : List ℕ). edge-arc (edge-of first (drop at s)) ∷ map edge-arc (edges-of first k t)) (drop-drop edge-stride at s)
-    ∙ rw (less-one k)
+-- a kind that is not 0 is straight
+pub straight : (kind : ℕ) → (kind ≡ 0 → ⊥) → max-weight + 1 ≡ strength-of kind 1
+straight zero n = absurd (n refl)
+straight (suc kind) n = refl
 
--- the first of some good edges
-pub first-good : (n : ℕ) (first : List ℕ) (k : ℕ) (s : List ℕ) → 0 < k → GoodEdges n first k s → GoodEdge n first s
-first-good n first zero s h g = absurd (omega arith)
-first-good n first (suc k) s h g = g .0
-
--- the others
-rest-good : (n : ℕ) (first : List ℕ) (k at : ℕ) (s : List ℕ) → 0 < k → GoodEdges n first k (drop at s)
-    → GoodEdges n first (k - 1) (drop (at + edge-stride) s)
-rest-good n first zero at s h g = absurd (omega arith)
-rest-good n first (suc k) at s h g = rw (less-one k) (rw (drop-drop edge-stride at s) at (g .1))
-
--- the loop over the edges
-pub record EdgesLeft (s first : List ℕ) (start count n : ℕ) (old new : List ℕ) (todo at m : ℕ) : Type 0 where
-  pub inside : at + edge-stride * todo ≤ length s
-  pub room : m + stride * todo ≡ n + stride * count
-  pub good : GoodEdges max-nodes first todo (drop at s)
-  pub left : Left old n (packs (map edge-arc (edges-of first count (drop start s)))) new m
-      (packs (map edge-arc (edges-of first todo (drop at s))))
-
-module _ {s first old new : List ℕ} {start count n todo at m : ℕ} (p : EdgesLeft s first start count n old new todo at m) where
-  -- the next edge is good
-  pub edge-good : 0 < todo → GoodEdge max-nodes first (drop at s)
-  edge-good h = first-good max-nodes first todo (drop at s) h (p .good)
-
-  -- one edge more
-  pub edges-step : {newer : List ℕ} {l : ℕ} → 0 < todo → Puts new m (packs (edge-arc (edge-of first (drop at s)) ∷ [])) newer l
-      → EdgesLeft s first start count n old newer (todo - 1) (at + edge-stride) l
-  edges-step h a =
-      let edge = edge-arc (edge-of first (drop at s)) ∷ [] in
-      record {
-        inside = omega (arith, p .inside);
-        room = omega (arith, p .room, a .behind, packs-length edge);
-        good = rest-good max-nodes first todo at s h (p .good);
-        left =
-            left-arcs edge (map edge-arc (edges-of first (todo - 1) (drop (at + edge-stride) s)))
-            (rw (edges-next first todo at s h) at (p .left)) a;
-      }
-
-  -- no edge is left
-  pub edges-end : todo ≡ 0 → Puts old n (packs (map edge-arc (edges-of first count (drop start s)))) new m
-  unfolding packs
-  edges-end e = left-end (rw e at (p .left))
+-- edge i of m good ones
+pub good-at : {n : ℕ} {first : List ℕ} (m start i : ℕ) (s : List ℕ) → i < m → GoodEdges n first m (drop start s)
+    → GoodEdge n first (drop (start + edge-stride * i) s)
+good-at zero start i s h g = absurd (omega arith)
+good-at (suc m) start zero s h g = let here : start + edge-stride * 0 ≡ start = omega arith in rw here (g .0)
+good-at (suc m) start (suc i) s h g =
+    let next : start + edge-stride + edge-stride * i ≡ start + edge-stride * suc i = omega arith in
+    rw next at (good-at m (start + edge-stride) i s (omega arith) (rw (drop-drop edge-stride start s) at (g .1)))

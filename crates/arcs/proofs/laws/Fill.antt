@@ -12,16 +12,20 @@ use Rattle.sheet.specs.Layout.{width-at, first-layer-at, nodes-at, edges-at, ed
 use Rattle.network.specs.Network.{Arc}
 use Rattle.network.specs.Packed.{stride, packs, packed}
 use Rattle.network.specs.laws.PackedBack.{packs-length}
-use Rattle.drawing.specs.Sheet.{edges-of, first-nodes, sheet-of}
+use Rattle.drawing.specs.Sheet.{Edge, edges-of, first-nodes, sheet-of}
+use Rattle.drawing.specs.Traces.{traces}
 use Rattle.drawing.specs.Arcs.{edge-arc, layer-arcs, network}
 use Rattle.drawing.specs.laws.Good.{GoodLayers, GoodEdges, GoodRest, Good}
+use Rattle.drawing.specs.laws.Traces.{traces-length}
 use Rattle.drawing.specs.laws.Proper.{edges-length}
 use Rattle.drawing.specs.laws.ArcCount.{layers-count}
 use Rattle.arcs.specs.Words.{Small}
 use Rattle.arcs.specs.inside.Pieces.{layers-arcs}
 use Rattle.arcs.specs.inside.Plans.{Planned, written}
+use Rattle.arcs.specs.inside.Traces.{Rising}
 use Rattle.arcs.specs.declared.Plan.{Plan}
 use Rattle.arcs.proofs.laws.Packing.{puts-arcs}
+use Rattle.arcs.proofs.laws.TraceTable.{rising}
 
 -- the number that stands at the width is the sheet's width
 pub width-read : (s : List ℕ) {w : ℕ} → Small w (getD s width-at 0) → w ≡ sheet-of s .width
@@ -40,7 +44,7 @@ module _ {s first : List ℕ} {p : Plan} (g : Good max-nodes s) (planned : Plann
 
   -- the arcs of the edges
   abbrev edge-arcs : List Arc
-  edge-arcs = map edge-arc (edges-of firsts (p .edges) (drop (p .behind + edges-at) s))
+  edge-arcs = map edge-arc (traces (edges-of firsts (p .edges) (drop (p .behind + edges-at) s)))
 
   -- what follows the layers is good
   rest-good : GoodRest max-nodes (first-nodes (p .layers) 0 (drop first-layer-at s)) (drop (p .behind) s)
@@ -49,6 +53,10 @@ module _ {s first : List ℕ} {p : Plan} (g : Good max-nodes s) (planned : Plann
   -- the first nodes are the sheet's
   firsts-are : firsts ≡ first-nodes (p .layers) 0 (drop first-layer-at s)
   firsts-are = let k : (p .layers + 1) - 0 ≡ p .layers + 1 = omega arith in rw k (planned .firsts)
+
+  -- they never fall
+  pub firsts-rise : Rising firsts
+  firsts-rise = rw firsts-are (rising (p .layers) 0 (drop first-layer-at s))
 
   -- the edges are good
   pub edges-good : GoodEdges max-nodes firsts (p .edges) (drop (p .behind + edges-at) s)
@@ -81,7 +89,8 @@ module _ {s first : List ℕ} {p : Plan} (g : Good max-nodes s) (planned : Plann
   -- an arc for each edge
   edges-count : length edge-arcs ≡ p .edges
   edges-count =
-      length-map (edges-of firsts (p .edges) (drop (p .behind + edges-at) s)) edge-arc
+      length-map (traces (edges-of firsts (p .edges) (drop (p .behind + edges-at) s))) edge-arc
+      ∙ traces-length (edges-of firsts (p .edges) (drop (p .behind + edges-at) s))
       ∙ edges-length firsts (p .edges) (drop (p .behind + edges-at) s)
 
   -- the edges are the sheet's
@@ -106,7 +115,10 @@ module _ {s first : List ℕ} {p : Plan} (g : Good max-nodes s) (planned : Plann
   -- the arcs of the network are those of the edges, then those of the layers
   arcs-are : network (sheet-of s) .arcs ≡ edge-arcs ++ layers-arcs s (p .layers) (sheet-of s .width) (p .nodes)
   unfolding network
-  arcs-are = sym (ap₂ (λ (l r : List Arc). l ++ r) (ap (map edge-arc) edges-are) (layers-are (sheet-of s .width)))
+  arcs-are =
+      sym
+      (ap₂ (λ (l r : List Arc). l ++ r) (ap (λ (es : List Edge). map edge-arc (traces es)) edges-are)
+      (layers-are (sheet-of s .width)))
 
   -- one arc for each edge, and two for each node
   pub plan-arcs : length (network (sheet-of s) .arcs) ≡ p .edges + 2 * p .nodes

@@ -1,18 +1,21 @@
 -- Five stores make an arc, arcs are stored one behind the other, and the numbers of each kind of arc are its packing, by cases.
-use Prim.Native.Nat.{ℕ, zero, suc, _+_, _-_}
+use Prim.Native.Nat.{ℕ, zero, suc, _+_, _-_, _≤_, _<_}
 use mathlib.Core.Path.{_≡_, refl}
 use mathlib.Core.List.{List, [], _∷_, _++_}
 use native.Mathlib.Numerals.{add-one}
 use native.Mathlib.Omega.{arith}
 use lib.IntN.{ℤ, pos, negℤ}
 use lib.ListN.{set}
+use borrow.Author.Tests.{le-leb, lt-leb}
 use Rattle.leb128.specs.inside.Storing.{Puts}
 use Rattle.leb128.specs.laws.Storing.{puts-then, Left, left-part}
 use Rattle.network.specs.Packed.{tail-at, head-at, kink-at, low-at, high-at, stride}
 use Rattle.network.specs.Packed.{kink-zero, flow-zero, low-none, high-none, raised, packs}
 use Rattle.network.specs.Network.{Arc, upper-bound}
 use Rattle.network.specs.laws.PackedBack.{packs-append}
-use Rattle.drawing.specs.Arcs.{edge-arc-between, maximum-arc}
+use Rattle.sheet.specs.Limits.{max-weight}
+use Rattle.drawing.specs.Arcs.{maximum-arc}
+use Rattle.arcs.specs.inside.Traces.{strength-arc}
 
 -- the five stores of an arc
 pub arc-puts : (a : List ℕ) (n t h k l u : ℕ)
@@ -62,16 +65,14 @@ unfolding packs
 maximum-some zero v e = absurd (e refl)
 maximum-some (suc maximum) v e = rw add-one
 
--- a plain edge
-pub edge-plain : (kind u v : ℕ) → kind ≡ 0
-    → u ∷ v ∷ kink-zero ∷ (flow-zero - 1) ∷ (flow-zero + 1) ∷ [] ≡ packs (edge-arc-between kind u v ∷ [])
+-- an edge whose strength is a weight
+pub strength-plain : (w u v : ℕ) → w ≤ max-weight
+    → u ∷ v ∷ kink-zero ∷ (flow-zero - w) ∷ (flow-zero + w) ∷ [] ≡ packs (strength-arc w u v ∷ [])
 unfolding packs
-edge-plain zero u v e = refl
-edge-plain (suc kind) u v e = absurd (omega arith)
+strength-plain zero u v h = refl
+strength-plain (suc w) u v h = rw (le-leb (suc w) max-weight h)
 
--- a straight edge
-pub edge-straight : (kind u v : ℕ) → (kind ≡ 0 → ⊥)
-    → u ∷ v ∷ kink-zero ∷ low-none ∷ high-none ∷ [] ≡ packs (edge-arc-between kind u v ∷ [])
+-- an edge of a greater strength
+pub strength-straight : (w u v : ℕ) → max-weight < w → u ∷ v ∷ kink-zero ∷ low-none ∷ high-none ∷ [] ≡ packs (strength-arc w u v ∷ [])
 unfolding packs
-edge-straight zero u v e = absurd (e refl)
-edge-straight (suc kind) u v e = refl
+strength-straight w u v h = rw (lt-leb w max-weight h)

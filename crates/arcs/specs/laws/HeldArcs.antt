@@ -1,4 +1,5 @@
--- A slice that holds the packed arcs of a good sheet: they mean the sheet's network, and those of the edges come first.
+-- A slice that holds the packed arcs of a good sheet: they mean the sheet's network, and those of the edges come first, each with
+-- the ends of its edge and the weight that it carries.
 use Prim.Native.Nat.{ℕ, _+_, _*_, _≤_, _<_}
 use mathlib.Core.Path.{_≡_, _∙_, ap, ap₂}
 use mathlib.Core.List.{List, _++_, map, flatMap, append-assoc}
@@ -16,16 +17,22 @@ use Rattle.network.specs.Sums.{all}
 use Rattle.network.specs.Network.{Arc}
 use Rattle.network.specs.Packed.{kink-at, stride, kink-zero, packs, packed, storable, arcs-to, network-of}
 use Rattle.network.specs.laws.PackedBack.{packs-append, packs-length, arcs-back, kinks-in}
-use Rattle.drawing.specs.Sheet.{Sheet, sheet-of}
+use Rattle.drawing.specs.Sheet.{Edge, Sheet, sheet-of}
+use Rattle.drawing.specs.Traces.{traces}
 use Rattle.drawing.specs.Certificate.{certificate-size}
 use Rattle.drawing.specs.Arcs.{edge-arc, layer-arcs, network}
+use Rattle.drawing.specs.laws.Traces.{traces-length}
 use Rattle.drawing.specs.laws.GoodNumbers.{accepts-good}
 use Rattle.drawing.specs.laws.Proper.{accepts-proper}
-use Rattle.drawing.specs.Proper.{Proper}
+use Rattle.drawing.specs.Proper.{proper-edge, Proper}
+use Rattle.drawing.specs.laws.Carriers.{At}
+use Rattle.drawing.specs.laws.ProperEdges.{edge-parts, proper-traces}
 use Rattle.drawing.specs.laws.ArcCount.{arcs-count}
 use Rattle.drawing.specs.laws.ArcLimits.{network-storable}
 use Rattle.arcs.specs.declared.Counts.{Counts}
 use Rattle.arcs.specs.Loading.{arcs-size}
+use Rattle.arcs.specs.Lengths.{edge-from}
+use Rattle.arcs.specs.laws.PackedEdges.{Packs, at-all, packed-edge}
 use Rattle.arcs.specs.laws.Loaded.{LoadedSheet}
 
 -- the packed arcs of a good sheet of these counts, whatever stands behind them
@@ -110,12 +117,18 @@ module _ {a : List ℕ} {c : Counts} (h : Holds a c) where
       (ap₂ arcs-to front (h .arcs-are) ∙ arcs-back xs (h .behind) stored)
 
   -- the edges' come first
-  pub edges-front : take (stride * c .edges) a ≡ packs (map edge-arc (S .edges))
+  pub edges-front : take (stride * c .edges) a ≡ packs (map edge-arc (traces (S .edges)))
   unfolding network
   edges-front =
-      let es : List Arc = map edge-arc (S .edges) in
+      let ts : List Edge = traces (S .edges) in
+      let es : List Arc = map edge-arc ts in
       let ls : List Arc = flatMap (layer-arcs (S .width) (S .nodes)) (S .layers) in
       ap (take (stride * c .edges)) (front ∙ ap (λ (l : List ℕ). l ++ h .behind) (packs-append es ls)
       ∙ append-assoc (packs es) (packs ls) (h .behind))
       ∙ take-at (packs es) (packs ls ++ h .behind) (stride * c .edges)
-      (omega (arith, packs-length es, length-map (S .edges) edge-arc, h .edges-are))
+      (omega (arith, packs-length es, length-map ts edge-arc, traces-length (S .edges), h .edges-are))
+
+  -- packed edge i of these is what edge i carries
+  pub held-edge : {i : ℕ} {t : Edge} → At (traces (S .edges)) i t → Packs (edge-from i (take (stride * c .edges) a)) t
+  held-edge {t = t} x =
+      rw edges-front (packed-edge x (edge-parts (S .nodes) t (at-all (proper-edge (S .nodes)) x (proper-traces S proper)) .weight))

@@ -1,43 +1,75 @@
--- The lengths of a sheet's packed edges, added, are document 01's total; a drawing's total stays far below the greatest
--- number of 32 bits.
-use Prim.Native.Nat.{ℕ, zero, suc, _+_, _/_, min}
-use mathlib.Core.Path.{_≡_, refl, _∙_, ap, ap₂}
+-- What a sheet's packed edges count, added, is the total of a drawing, which stays far below the greatest number of 32 bits: a packed
+-- edge has the ends of its edge and, if it is plain, the weight.
+use Prim.Native.Nat.{ℕ, zero, suc, _+_, _*_, _/_, _≤_, min}
+use mathlib.Core.Path.{_≡_, refl, sym, _∙_, ap, ap₂, subst}
 use mathlib.Core.List.{List, [], _∷_, map}
+use native.Mathlib.Nat.{mul-zero}
 use native.Mathlib.Omega.{arith}
+use lib.Dec.{T, eqb→eq}
 use lib.ListN.{length, length-map}
-use Rattle.network.specs.Sums.{sumℕ}
+use Rattle.sheet.specs.Limits.{max-weight}
+use Rattle.network.specs.Sums.{sumℕ, all}
 use Rattle.network.specs.Packed.{stride, packs}
 use Rattle.network.specs.laws.PackedBack.{packs-length}
+use Rattle.network.specs.laws.Tests.{and-left, and-right}
 use Rattle.drawing.specs.Sheet.{Edge, Sheet}
-use Rattle.drawing.specs.Drawing.{coordinate, edge-length, total-length, Drawing}
+use Rattle.drawing.specs.Traces.{traces}
+use Rattle.drawing.specs.Drawing.{coordinate, aligned, edge-aligned, edge-length, weighted-length, total-length, Drawing}
 use Rattle.drawing.specs.Arcs.{edge-arc-between, edge-arc}
-use Rattle.drawing.specs.Proper.{Proper}
+use Rattle.drawing.specs.Proper.{proper-edge, Proper}
+use Rattle.drawing.specs.laws.Traces.{aligned-traces}
+use Rattle.drawing.specs.laws.ProperEdges.{edge-parts, proper-traces}
 use Rattle.drawing.specs.laws.Unique.{total-small}
 use Rattle.arcs.specs.Words.{u32-most}
-use Rattle.arcs.specs.Lengths.{distance, lengths, lengths-of}
+use Rattle.arcs.specs.laws.PackedEdges.{front-packs}
+use Rattle.arcs.specs.Lengths.{weight-at, distance, counted-at, lengths, lengths-of}
 
 -- the arc of an edge has its ends
-pub ends : (kind u v : ℕ) → (edge-arc-between kind u v .tail ≡ u) × (edge-arc-between kind u v .head ≡ v)
-ends zero u v = (refl, refl)
-ends (suc kind) u v = (refl, refl)
+pub ends : (kind weight u v : ℕ) → (edge-arc-between kind weight u v .tail ≡ u) × (edge-arc-between kind weight u v .head ≡ v)
+ends zero weight u v = (refl, refl)
+ends (suc kind) weight u v = (refl, refl)
 
--- the lengths of edges, from their arcs
-edges-lengths : (p : List ℕ) (es : List Edge) → lengths (length es) p (packs (map edge-arc es)) ≡ sumℕ (edge-length p) es
+-- what a packed edge counts is the edge's length times its weight, where a straight edge is straight
+edge-counted : (p : List ℕ) (e : Edge) (es : List Edge) → e .weight ≤ max-weight → T (edge-aligned p e)
+    → counted-at p (packs (map edge-arc (e ∷ es))) ≡ weighted-length p e
+edge-counted p e es h t =
+    let s : List ℕ = packs (map edge-arc (e ∷ es)) in
+    let packed = front-packs e es h in
+    ap₂ (λ (u v : ℕ). weight-at s * distance (coordinate p u) (coordinate p v)) (packed .upper) (packed .lower)
+    ∙ by-kind (e .kind) (packed .weight) t
+  where
+    -- a straight edge has no length
+    by-kind : (kind : ℕ) {w : ℕ} → (kind ≡ 0 → w ≡ e .weight) → T (aligned kind (coordinate p (e .upper)) (coordinate p (e .lower)))
+        → w * edge-length p e ≡ weighted-length p e
+    by-kind zero weight t = ap (λ (w : ℕ). w * edge-length p e) (weight refl)
+    by-kind (suc kind) {w} weight t =
+        let none : edge-length p e ≡ 0 = omega (arith, eqb→eq (coordinate p (e .upper)) (coordinate p (e .lower)) t) in
+        rw none (mul-zero w ∙ sym (mul-zero (e .weight)))
+
+-- the same of edges, added
+edges-lengths : (n : ℕ) (p : List ℕ) (es : List Edge) → T (all (proper-edge n) es) → T (all (edge-aligned p) es)
+    → lengths (length es) p (packs (map edge-arc es)) ≡ sumℕ (weighted-length p) es
 unfolding packs
-edges-lengths p [] = refl
-edges-lengths p (e ∷ es) =
-    let x = ends (e .kind) (e .upper) (e .lower) in
-    ap₂ _+_ (ap₂ (λ (u v : ℕ). distance (coordinate p u) (coordinate p v)) (x .0) (x .1)) (edges-lengths p es)
+edges-lengths n p [] a b = refl
+edges-lengths n p (e ∷ es) a b =
+    ap₂ _+_
+    (edge-counted p e es (edge-parts n e (and-left (proper-edge n e) (all (proper-edge n) es) a) .weight)
+    (and-left (edge-aligned p e) (all (edge-aligned p) es) b))
+    (edges-lengths n p es (and-right (proper-edge n e) (all (proper-edge n) es) a)
+    (and-right (edge-aligned p e) (all (edge-aligned p) es) b))
 
--- the lengths of a sheet's packed edges are the total
-pub sheet-lengths : (S : Sheet) (p : List ℕ) → lengths-of p (packs (map edge-arc (S .edges))) ≡ total-length S p
+-- what a sheet's packed edges count is the total of a drawing
+pub sheet-lengths : (S : Sheet) (p : List ℕ) → Proper S → Drawing S p
+    → lengths-of p (packs (map edge-arc (traces (S .edges)))) ≡ total-length S p
 unfolding total-length
-sheet-lengths S p =
-    let count : length (packs (map edge-arc (S .edges))) / stride ≡ length (S .edges) =
-    omega (arith, packs-length (map edge-arc (S .edges)), length-map (S .edges) edge-arc) in
-    ap (λ (n : ℕ). lengths n p (packs (map edge-arc (S .edges)))) count ∙ edges-lengths p (S .edges)
+sheet-lengths S p proper d =
+    let ts : List Edge = traces (S .edges) in
+    let count : length (packs (map edge-arc ts)) / stride ≡ length ts =
+    omega (arith, packs-length (map edge-arc ts), length-map ts edge-arc) in
+    ap (λ (n : ℕ). lengths n p (packs (map edge-arc ts))) count
+    ∙ edges-lengths (S .nodes) p ts (proper-traces S proper) (subst T (sym (aligned-traces p (S .edges))) (d .straight))
 
 -- and the total of a drawing of a proper sheet is what the code's total is
 pub drawing-total : (S : Sheet) (p : List ℕ) → Proper S → Drawing S p
-    → min u32-most (lengths-of p (packs (map edge-arc (S .edges)))) ≡ total-length S p
-drawing-total S p proper d = omega (arith, sheet-lengths S p, total-small S p proper d)
+    → min u32-most (lengths-of p (packs (map edge-arc (traces (S .edges))))) ≡ total-length S p
+drawing-total S p proper d = omega (arith, sheet-lengths S p proper d, total-small S p proper d)

@@ -1,17 +1,17 @@
 -- Setting the width of the packed arcs of a good sheet gives those of the sheet at that width: only right boundaries leave ground.
 use Prim.Native.Nat.{ℕ, zero, suc, _+_, _-_, _/_, _≤_, _<_}
 use mathlib.Core.Path.{_≡_, refl, sym, _∙_, ap, ap₂}
-use mathlib.Core.Bool.{Bool, cond, _&&_}
+use mathlib.Core.Bool.{cond}
 use mathlib.Core.Logic.{⊎-elim}
 use mathlib.Core.List.{List, [], _∷_, _++_, map, flatMap, map-append}
 use native.Mathlib.Omega.{arith}
-use lib.Dec.{T, eqb, ltb, leb, ltb→lt}
+use lib.Dec.{T, eqb}
 use lib.IntN.{pos}
 use lib.ListN.{length, getD, drop, length-append, length-map}
 use borrow.Author.Tests.{eq-eqb, ne-eqb}
 use Rattle.leb128.specs.Grammar.{Accepts}
 use Rattle.leb128.specs.laws.Cases.{eq-or-ne}
-use Rattle.sheet.specs.Limits.{max-width, max-kind}
+use Rattle.sheet.specs.Limits.{max-width}
 use Rattle.sheet.specs.Layout.{layers-at, first-layer-at, nodes-at, separations-at, separation-stride, next-layer}
 use Rattle.sheet.specs.Grammar.{sheet}
 use Rattle.network.specs.Sums.{all}
@@ -20,12 +20,14 @@ use Rattle.network.specs.Packed.{stride, packs, packed}
 use Rattle.network.specs.laws.PackedBack.{packs-length}
 use Rattle.network.specs.laws.Tests.{and-left, and-right}
 use Rattle.drawing.specs.Sheet.{Pair, Layer, Edge, Sheet, pairs-of, layers-of, sheet-of, at-width}
+use Rattle.drawing.specs.Traces.{traces}
 use Rattle.drawing.specs.Arcs.{edge-arc, minimum-arc, maximum-arc, separation-arcs, layer-arcs, network}
 use Rattle.drawing.specs.Proper.{proper-edge}
 use Rattle.drawing.specs.Widths.{with-width}
 use Rattle.drawing.specs.laws.Good.{GoodLayer, GoodLayers, Good}
 use Rattle.drawing.specs.laws.GoodNumbers.{accepts-good}
 use Rattle.drawing.specs.laws.Proper.{nodes-are, accepts-proper}
+use Rattle.drawing.specs.laws.ProperEdges.{edge-parts, proper-traces}
 use Rattle.drawing.specs.laws.Widths.{width-accepts, width-sheet}
 use Rattle.arcs.specs.declared.Counts.{Counts}
 use Rattle.arcs.specs.inside.Pieces.{pair-at, layer-at}
@@ -74,12 +76,8 @@ module _ (ground width : ℕ) where
   edges-stay : (es : List Edge) → T (all (proper-edge ground) es) → map (at-kink ground width) (map edge-arc es) ≡ map edge-arc es
   edges-stay [] t = refl
   edges-stay (e ∷ es) t =
-      let here : T (proper-edge ground e) = and-left (proper-edge ground e) (all (proper-edge ground) es) t in
-      let upper-in : Bool = ltb (e .upper) ground in
-      let lower-in : Bool = ltb (e .lower) ground in
-      let upper : e .upper < ground =
-      ltb→lt (e .upper) ground (and-left upper-in lower-in (and-left (upper-in && lower-in) (leb (e .kind) max-kind) here)) in
-      ap₂ _∷_ (stays (edge-arc e) (rw (ends (e .kind) (e .upper) (e .lower) .0) upper))
+      let upper : e .upper < ground = edge-parts ground e (and-left (proper-edge ground e) (all (proper-edge ground) es) t) .upper in
+      ap₂ _∷_ (stays (edge-arc e) (rw (ends (e .kind) (e .weight) (e .upper) (e .lower) .0) upper))
       (edges-stay es (and-right (proper-edge ground e) (all (proper-edge ground) es) t))
 
   -- the arcs of pairs do
@@ -124,8 +122,8 @@ unfolding network sheet-of
 network-widened width s a =
     let S : Sheet = sheet-of s in
     let g : Good (S .nodes) s = accepts-good (S .nodes) (omega (arith, nodes-are s)) a in
-    map-append (at-kink (S .nodes) width) (map edge-arc (S .edges)) (flatMap (layer-arcs (S .width) (S .nodes)) (S .layers))
-    ∙ ap₂ _++_ (edges-stay (S .nodes) width (S .edges) (accepts-proper s a .ends))
+    map-append (at-kink (S .nodes) width) (map edge-arc (traces (S .edges))) (flatMap (layer-arcs (S .width) (S .nodes)) (S .layers))
+    ∙ ap₂ _++_ (edges-stay (S .nodes) width (traces (S .edges)) (proper-traces S (accepts-proper s a)))
     (layers-widened (S .nodes) width (S .width) (getD s layers-at 0) 0 (drop first-layer-at s) (g .layers))
 
 -- so do its packed arcs, whatever stands behind them

@@ -8,7 +8,9 @@ use lib.ListN.{length, getD, drop, length-append, length-map}
 use Rattle.drawing.specs.Arcs.{edge-arc, layer-arcs, network}
 use Rattle.drawing.specs.Certificate.{certificate-size}
 use Rattle.drawing.specs.Sheet.{Layer, Sheet, pairs-of, layers-of, first-nodes, sheet-of}
+use Rattle.drawing.specs.Traces.{traces}
 use Rattle.sheet.specs.Layout.{layers-at, first-layer-at, nodes-at, separations-at, next-layer}
+use Rattle.drawing.specs.laws.Traces.{traces-length}
 use Rattle.drawing.specs.laws.Terms.{layer-length}
 use Rattle.drawing.specs.laws.SameDrawings.{length-pairs}
 use Rattle.drawing.specs.laws.Good.{GoodLayers, Good}
@@ -36,7 +38,8 @@ arcs-count n s g =
     let S : Sheet = sheet-of s in
     omega (
       arith,
-      length-append (map edge-arc (S .edges)) (flatMap (layer-arcs (S .width) (S .nodes)) (S .layers)),
-      length-map (S .edges) edge-arc,
+      length-append (map edge-arc (traces (S .edges))) (flatMap (layer-arcs (S .width) (S .nodes)) (S .layers)),
+      length-map (traces (S .edges)) edge-arc,
+      traces-length (S .edges),
       layers-count n (S .width) (S .nodes) (getD s layers-at 0) 0 (drop first-layer-at s) (g .layers),
     )

@@ -1,38 +1,37 @@
 -- The arcs of a good sheet are within narrow limits, piece by piece: ends that are nodes or ground, small kinks, limits of the
--- flow -1, 0, 1 or none. So they read back from their packing, and the solvers take them.
+-- flow that are 0, a weight up or down, or none. So they read back from their packing, and the solvers take them.
 use Prim.Native.Nat.{ℕ, zero, suc, _+_, _-_, _≤_, _<_}
 use mathlib.Core.Bool.{Bool, true, false, _&&_}
 use mathlib.Core.List.{List, [], _∷_, _++_, map, flatMap}
 use native.Mathlib.Omega.{arith}
-use lib.Dec.{T, ltb, leb, ltb→lt, lt→ltb, leb→le}
+use lib.Dec.{T, ltb, leb, ltb→lt, lt→ltb, leb→le, le→leb}
 use lib.IntN.{ℤ, pos, negsuc, natAbs, negℤ}
 use lib.ListN.{length, getD, drop}
 use Rattle.network.specs.Sums.{all}
 use Rattle.network.specs.Network.{Limit, unlimited, limit, Arc, upper-bound}
-use Rattle.network.specs.Packed.{kink-zero, inside, storable}
+use Rattle.network.specs.Packed.{kink-zero, flow-zero, inside, storable}
 use Rattle.network.specs.laws.Sizes.{size-neg}
 use Rattle.network.specs.laws.Tests.{and-left, and-right, and-both, all-map, all-append, all-image, all-flat}
-use Rattle.sheet.specs.Limits.{max-separation, max-kind}
+use Rattle.sheet.specs.Limits.{max-separation, max-weight}
 use Rattle.sheet.specs.Layout.{layers-at, first-layer-at, nodes-at, separations-at, next-layer}
 use Rattle.drawing.specs.Sheet.{Pair, Layer, Edge, Sheet, pairs-of, layers-of, first-nodes, sheet-of}
+use Rattle.drawing.specs.Traces.{traces}
 use Rattle.drawing.specs.Arcs.{edge-arc-between, edge-arc, minimum-arc, maximum-arc, separation-arcs, layer-arcs, network}
 use Rattle.drawing.specs.Proper.{not-crossed, proper-edge, proper-pair, Proper}
+use Rattle.drawing.specs.laws.ProperEdges.{edge-parts, proper-traces}
 use Rattle.drawing.specs.laws.SameDrawings.{length-pairs}
 
--- a low limit of -1 or 0, or none
+-- a low limit from minus the greatest weight to 0, or none
 abbrev pub low-near : Limit → Bool
 low-near unlimited = true
 low-near (limit (pos zero)) = true
 low-near (limit (pos (suc n))) = false
-low-near (limit (negsuc zero)) = true
-low-near (limit (negsuc (suc n))) = false
+low-near (limit (negsuc n)) = ltb n max-weight
 
--- a high limit of 0 or 1, or none
+-- a high limit from 0 to the greatest weight, or none
 abbrev pub high-near : Limit → Bool
 high-near unlimited = true
-high-near (limit (pos zero)) = true
-high-near (limit (pos (suc zero))) = true
-high-near (limit (pos (suc (suc n)))) = false
+high-near (limit (pos n)) = leb n max-weight
 high-near (limit (negsuc n)) = false
 
 -- an arc between n nodes, with ground, within the limits
@@ -79,15 +78,12 @@ low-inside : (l : Limit) → T (low-near l) → T (inside l)
 low-inside unlimited t = tt
 low-inside (limit (pos zero)) t = tt
 low-inside (limit (pos (suc n))) t = absurd t
-low-inside (limit (negsuc zero)) t = tt
-low-inside (limit (negsuc (suc n))) t = absurd t
+low-inside (limit (negsuc n)) t = lt→ltb (suc n) flow-zero (omega (arith, ltb→lt n max-weight t))
 
 -- so has a near high limit
 high-inside : (l : Limit) → T (high-near l) → T (inside l)
 high-inside unlimited t = tt
-high-inside (limit (pos zero)) t = tt
-high-inside (limit (pos (suc zero))) t = tt
-high-inside (limit (pos (suc (suc n)))) t = absurd t
+high-inside (limit (pos n)) t = lt→ltb n flow-zero (omega (arith, leb→le n max-weight t))
 high-inside (limit (negsuc n)) t = absurd t
 
 -- such an arc is storable
@@ -102,22 +98,21 @@ bound-near : (n u v : ℕ) (k : ℤ) → u < n → v < n → natAbs k < kink-zer
 bound-near n u v k a b h = parts-near n (upper-bound u v k) (record { tail = a; head = b; kink = h; low = tt; high = tt })
 
 -- the arc of an edge between nodes
-edge-near : (n kind u v : ℕ) → u < n → v < n → T (near n (edge-arc-between kind u v))
-edge-near n zero u v a b =
-    parts-near n (edge-arc-between 0 u v) (record { tail = a; head = b; kink = omega arith; low = tt; high = tt })
-edge-near n (suc kind) u v a b =
-    parts-near n (edge-arc-between (suc kind) u v)
+edge-near : (n kind weight u v : ℕ) → u < n → v < n → weight ≤ max-weight → T (near n (edge-arc-between kind weight u v))
+edge-near n zero zero u v a b h =
+    parts-near n (edge-arc-between 0 0 u v) (record { tail = a; head = b; kink = omega arith; low = tt; high = tt })
+edge-near n zero (suc w) u v a b h =
+    parts-near n (edge-arc-between 0 (suc w) u v)
+    (record { tail = a; head = b; kink = omega arith; low = lt→ltb w max-weight h; high = le→leb (suc w) max-weight h })
+edge-near n (suc kind) weight u v a b h =
+    parts-near n (edge-arc-between (suc kind) weight u v)
     (record { tail = a; head = b; kink = omega arith; low = tt; high = tt })
 
 -- the arc of a proper edge
 proper-near : (n : ℕ) (e : Edge) → T (proper-edge n e) → T (near (n + 1) (edge-arc e))
 proper-near n e t =
-    let upper : Bool = ltb (e .upper) n in
-    let lower : Bool = ltb (e .lower) n in
-    let ends : T (upper && lower) = and-left (upper && lower) (leb (e .kind) max-kind) t in
-    let u : e .upper < n = ltb→lt (e .upper) n (and-left upper lower ends) in
-    let v : e .lower < n = ltb→lt (e .lower) n (and-right upper lower ends) in
-    edge-near (n + 1) (e .kind) (e .upper) (e .lower) (omega arith) (omega arith)
+    let p = edge-parts n e t in
+    edge-near (n + 1) (e .kind) (e .weight) (e .upper) (e .lower) (omega (arith, p .upper)) (omega (arith, p .lower)) (p .weight)
 
 -- the arc of a small maximum separation
 maximum-near : (n maximum v : ℕ) → suc v < n → maximum < kink-zero → T (near n (maximum-arc maximum v))
@@ -181,9 +176,11 @@ unfolding network sheet-of
 network-near s proper =
     let S : Sheet = sheet-of s in
     let arcs : Layer → List Arc = layer-arcs (S .width) (S .nodes) in
-    rw (all-append (near (S .nodes + 1)) (map edge-arc (S .edges)) (flatMap arcs (S .layers)), all-image (near (S .nodes + 1)) edge-arc (S .edges), all-flat (near (S .nodes + 1)) arcs (S .layers))
-    (and-both (all (λ e. near (S .nodes + 1) (edge-arc e)) (S .edges)) (all (λ l. all (near (S .nodes + 1)) (arcs l)) (S .layers))
-    (all-map (proper-edge (S .nodes)) (λ e. near (S .nodes + 1) (edge-arc e)) (proper-near (S .nodes)) (S .edges) (proper .ends))
+    let ts : List Edge = traces (S .edges) in
+    let here : Arc → Bool = near (S .nodes + 1) in
+    rw (all-append here (map edge-arc ts) (flatMap arcs (S .layers)), all-image here edge-arc ts, all-flat here arcs (S .layers))
+    (and-both (all (λ e. here (edge-arc e)) ts) (all (λ l. all here (arcs l)) (S .layers))
+    (all-map (proper-edge (S .nodes)) (λ e. here (edge-arc e)) (proper-near (S .nodes)) ts (proper-traces S proper))
     (layers-near (S .width) (S .nodes) (getD s layers-at 0) 0 (drop first-layer-at s) (omega (arith, proper .width)) (omega arith) (proper .pairs)))
 
 -- so they are storable

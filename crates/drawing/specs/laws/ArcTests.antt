@@ -1,8 +1,9 @@
 -- The tests and costs of a sheet's arcs are document 01's, kind by kind: a tension is a difference of two coordinates.
-use mathlib.Core.Path.{_≡_, refl, _∙_, ap, ap₂}
+use mathlib.Core.Path.{_≡_, refl, sym, _∙_, ap, ap₂}
 use mathlib.Core.List.{List, [], _∷_, flatMap}
 use mathlib.Core.Bool.{true, _&&_, and-true}
-use Prim.Native.Nat.{ℕ, zero, suc, _+_, _-_}
+use Prim.Native.Nat.{ℕ, zero, suc, _+_, _-_, _*_}
+use native.Mathlib.Nat.{mul-zero}
 use native.Mathlib.Omega.{arith}
 use lib.Dec.{T, leb, leb→le, le→leb, eqb, eqb→eq}
 use lib.ListN.{length}
@@ -53,27 +54,30 @@ module _ (p : List ℕ) where
       (and-true (legal (integers p) (maximum-arc (x .maximum) (x .left))) ∙ maximum-is (x .maximum) (x .left))
 
   -- the arc of an edge tests whether a straight edge is straight
-  pub edge-is : (kind u v : ℕ) → legal (integers p) (edge-arc-between kind u v) ≡ aligned kind (coordinate p u) (coordinate p v)
+  pub edge-is : (kind weight u v : ℕ) → legal (integers p) (edge-arc-between kind weight u v)
+      ≡ aligned kind (coordinate p u) (coordinate p v)
   unfolding up down
-  edge-is zero u v = free (past-kink (integers p) (edge-arc-between 0 u v))
+  edge-is zero weight u v = free (past-kink (integers p) (edge-arc-between 0 weight u v))
     where
       -- a plain edge's arc is legal on every side
-      free : (d : ℤ) → legal-at (edge-arc-between 0 u v) d ≡ true
+      free : (d : ℤ) → legal-at (edge-arc-between 0 weight u v) d ≡ true
       free (pos zero) = refl
       free (pos (suc n)) = refl
       free (negsuc n) = refl
-  edge-is (suc kind) u v = test-ext (legal (integers p) (edge-arc-between (suc kind) u v)) (eqb (coordinate p u) (coordinate p v))
-      (λ t. rw (eq-eqb (coordinate p u) (coordinate p v) (omega (arith, past-kink-parts p u v (pos 0), straight-parts (past-kink (integers p) (edge-arc-between (suc kind) u v)) t))) tt)
-      (λ t. parts-straight (past-kink (integers p) (edge-arc-between (suc kind) u v)) (omega (arith, past-kink-parts p u v (pos 0), eqb→eq (coordinate p u) (coordinate p v) t)))
+  edge-is (suc kind) weight u v =
+      let d : ℤ = past-kink (integers p) (edge-arc-between (suc kind) weight u v) in
+      test-ext (legal (integers p) (edge-arc-between (suc kind) weight u v)) (eqb (coordinate p u) (coordinate p v))
+      (λ t. rw (eq-eqb (coordinate p u) (coordinate p v) (omega (arith, past-kink-parts p u v (pos 0), straight-parts d t))) tt)
+      (λ t. parts-straight d (omega (arith, past-kink-parts p u v (pos 0), eqb→eq (coordinate p u) (coordinate p v) t)))
     where
       -- a straight edge's arc that is legal is at its kink
-      straight-parts : (d : ℤ) → T (legal-at (edge-arc-between (suc kind) u v) d) → up d ≡ down d
+      straight-parts : (d : ℤ) → T (legal-at (edge-arc-between (suc kind) weight u v) d) → up d ≡ down d
       straight-parts (pos zero) t = refl
       straight-parts (pos (suc n)) t = absurd t
       straight-parts (negsuc n) t = absurd t
 
       -- a straight edge's arc that is at its kink is legal
-      parts-straight : (d : ℤ) → up d ≡ down d → T (legal-at (edge-arc-between (suc kind) u v) d)
+      parts-straight : (d : ℤ) → up d ≡ down d → T (legal-at (edge-arc-between (suc kind) weight u v) d)
       parts-straight (pos zero) e = tt
       parts-straight (pos (suc n)) e = absurd (omega arith)
       parts-straight (negsuc n) e = absurd (omega arith)
@@ -103,22 +107,29 @@ module _ (p : List ℕ) where
         ∙ ap₂ _&&_ (all-flat (legal (integers p)) separation-arcs (l .pairs) ∙ all-ext (λ x. all (legal (integers p)) (separation-arcs x)) (separated p) separation-is (l .pairs))
         (and-true (legal (integers p) (upper-bound ground (l .first + length (l .pairs)) (pos width))) ∙ right-boundary (l .first + length (l .pairs))))
 
-  -- the arc of an edge costs the edge's length, where a straight edge is straight
-  pub edge-cost : (kind u v : ℕ) → T (aligned kind (coordinate p u) (coordinate p v))
-      → cost (integers p) (edge-arc-between kind u v) ≡ pos ((coordinate p v - coordinate p u) + (coordinate p u - coordinate p v))
+  -- the arc of an edge costs the edge's length times its weight, where a straight edge is straight
+  pub edge-cost : (kind weight u v : ℕ) → T (aligned kind (coordinate p u) (coordinate p v))
+      → cost (integers p) (edge-arc-between kind weight u v)
+      ≡ pos (weight * ((coordinate p v - coordinate p u) + (coordinate p u - coordinate p v)))
   unfolding up down
-  edge-cost zero u v t =
-      plain (past-kink (integers p) (edge-arc-between 0 u v))
-      ∙ ap pos
-      (omega (arith, past-kink-parts p u v (pos 0), min-parts (past-kink (integers p) (edge-arc-between 0 u v))))
+  edge-cost zero weight u v t =
+      plain weight (past-kink (integers p) (edge-arc-between 0 weight u v))
+      ∙ ap (λ (n : ℕ). pos (weight * n))
+      (omega (arith, past-kink-parts p u v (pos 0), min-parts (past-kink (integers p) (edge-arc-between 0 weight u v))))
     where
-      -- a plain edge's arc costs its distance from the kink
-      plain : (d : ℤ) → cost-at (edge-arc-between 0 u v) d ≡ pos (up d + down d)
-      plain (pos n) = ap pos (omega arith)
-      plain (negsuc n) = ap pos (omega arith)
-  edge-cost (suc kind) u v t =
-      costless (edge-arc-between (suc kind) u v) refl refl (past-kink (integers p) (edge-arc-between (suc kind) u v))
-      ∙ ap pos (omega (arith, eqb→eq (coordinate p u) (coordinate p v) t))
+      -- a plain edge's arc costs its distance from the kink times the weight
+      plain : (w : ℕ) (d : ℤ) → cost-at (edge-arc-between 0 w u v) d ≡ pos (w * (up d + down d))
+      plain w (pos n) = ap (λ (k : ℕ). pos (w * k)) (omega arith)
+      plain zero (negsuc n) = costless (edge-arc-between 0 0 u v) refl refl (negsuc n) ∙ ap pos (omega arith)
+      plain (suc w) (negsuc n) = ap (λ (k : ℕ). pos (suc w * k)) (omega arith)
+  edge-cost (suc kind) weight u v t =
+      costless (edge-arc-between (suc kind) weight u v) refl refl (past-kink (integers p) (edge-arc-between (suc kind) weight u v))
+      ∙ ap pos (sym (ap (λ (n : ℕ). weight * n) (none (coordinate p u) (coordinate p v) (eqb→eq (coordinate p u) (coordinate p v) t))
+      ∙ mul-zero weight))
+    where
+      -- equal coordinates have no distance
+      none : (a b : ℕ) → a ≡ b → (b - a) + (a - b) ≡ 0
+      none a b e = omega arith
 
   -- the two arcs of a pair cost nothing
   separation-cost : (x : Pair) → sum (cost (integers p)) (separation-arcs x) ≡ pos 0

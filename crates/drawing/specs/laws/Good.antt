@@ -32,13 +32,15 @@ abbrev pub GoodLayers : ℕ → ℕ → ℕ → List ℕ → Type 0
 GoodLayers n zero v s = Unit
 GoodLayers n (suc k) v s = GoodLayer n v s × GoodLayers n k (v + getD s nodes-at 0) (next-layer s)
 
--- an edge whose numbers are the first of s: it joins two layers, its upper end is a node of its layer, its lower end a node
+-- an edge whose numbers are the first of s: it joins two layers, its upper end is a node of its layer, its lower end a node near
+-- the first one of the next layer
 pub record GoodEdge (n : ℕ) (first s : List ℕ) : Type 0 where
   pub layer : (1 ≤ getD s edge-layer-at 0) × (getD s edge-layer-at 0 < length first)
   pub positions : (1 ≤ getD s edge-upper-at 0) × (1 ≤ getD s edge-lower-at 0)
   pub inside : node-at first (getD s edge-layer-at 0) (getD s edge-upper-at 0) < getD first (getD s edge-layer-at 0) 0
   pub upper : node-at first (getD s edge-layer-at 0) (getD s edge-upper-at 0) < n
   pub lower : node-at first (getD s edge-layer-at 0 + 1) (getD s edge-lower-at 0) < n
+  pub near : getD s edge-lower-at 0 ≤ max-layer-nodes
   pub kind : getD s edge-kind-at 0 ≤ max-kind
 
 -- m edges

@@ -76,6 +76,12 @@ layer-ends n zero v s g j h = absurd (omega arith)
 layer-ends n (suc k) v s g zero h = g .0 .room
 layer-ends n (suc k) v s g (suc j) h = layer-ends n k (v + getD s nodes-at 0) (next-layer s) (g .1) j (omega arith)
 
+-- layer j has few nodes
+layer-few : (n k v : ℕ) (s : List ℕ) → GoodLayers n k v s → (j : ℕ) → j < k → getD (node-counts k s) j 0 ≤ max-layer-nodes
+layer-few n zero v s g j h = absurd (omega arith)
+layer-few n (suc k) v s g zero h = g .0 .few
+layer-few n (suc k) v s g (suc j) h = layer-few n k (v + getD s nodes-at 0) (next-layer s) (g .1) j (omega arith)
+
 -- k layers are good, and what follows them is accepted
 pub record LayersGood (n k v : ℕ) (counts : List ℕ) (next : List ℕ → Grammar) (s : List ℕ) : Type 0 where
   pub good : GoodLayers n k v s
@@ -106,10 +112,11 @@ good-layers n (suc k) room v counts {next} {s} h a =
       rest = rw append-assoc at (others .rest);
     }
 
--- the edges, where the nodes of each layer stand before those of the next and are among the first n
+-- the edges, where the nodes of each layer are few, stand before those of the next and are among the first n
 module _ (n : ℕ) (first counts : List ℕ) (long : length first ≡ suc (length counts))
     (next : (j : ℕ) → j < length counts → getD first j 0 + getD counts j 0 ≡ getD first (suc j) 0)
-    (ends : (j : ℕ) → j < length counts → getD first j 0 + getD counts j 0 ≤ n) where
+    (ends : (j : ℕ) → j < length counts → getD first j 0 + getD counts j 0 ≤ n)
+    (few : (j : ℕ) → j < length counts → getD counts j 0 ≤ max-layer-nodes) where
   -- m edges are good, and all of their numbers are there
   good-edges : (m : ℕ) {s : List ℕ} → Accepts (edges m counts) s → (edge-stride * m ≤ length s) × GoodEdges n first m s
   unfolding edges edge
@@ -143,6 +150,7 @@ module _ (n : ℕ) (first counts : List ℕ) (long : length first ≡ suc (lengt
                 omega (arith, l2 .0, l2 .1, e1, next (r - 1) (omega (arith, l1 .0, l1 .1)) ∙ ap (λ (j : ℕ). getD first j 0) behind);
             upper = omega (arith, l1 .0, l1 .1, l2 .0, l2 .1, e1, ends (r - 1) (omega (arith, l1 .0, l1 .1)));
             lower = rw last (omega (arith, l1 .0, l1 .1, l3 .0, l3 .1, e2, ends r (omega (arith, l1 .0, l1 .1))));
+            near = omega (arith, l3 .1, e2, few r (omega (arith, l1 .0, l1 .1)));
             kind = rw (← e3) (l4 .1);
           },
           subst (GoodEdges n first m) four (others .1),
@@ -166,7 +174,8 @@ accepts-good {s} n h a =
     let some = within-limits 0 max-edges m (total .meets) in
     let e = good-edges n (first-nodes k 0 s2) (node-counts k s2) (first-nodes-length k 0 s2 ∙ ap suc (sym (node-counts-length k s2)))
     (λ j i. next-first k 0 s2 j (omega (arith, node-counts-length k s2)))
-    (λ j i. layer-ends n k 0 s2 (l .good) j (omega (arith, node-counts-length k s2))) m (total .rest) in
+    (λ j i. layer-ends n k 0 s2 (l .good) j (omega (arith, node-counts-length k s2)))
+    (λ j i. layer-few n k 0 s2 (l .good) j (omega (arith, node-counts-length k s2))) m (total .rest) in
     record {
       head = omega (arith, width .there, count .there);
       width = within-limits 0 max-width (getD s 0 0) (width .meets) .1;

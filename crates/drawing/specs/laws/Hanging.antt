@@ -16,6 +16,7 @@ use Rattle.network.specs.laws.Models.{leftmost-models}
 use Rattle.network.specs.laws.Hanging.{Hook, Hangs, hook-first, hook-second, natural-potentials}
 use Rattle.sheet.specs.Layout.{layers-at, first-layer-at, nodes-at, separations-at, separation-stride, minimum-at, maximum-at, next-layer}
 use Rattle.drawing.specs.Sheet.{Pair, Layer, pairs-of, layers-of, first-nodes, sheet-of}
+use Rattle.drawing.specs.Traces.{traces}
 use Rattle.drawing.specs.Drawing.{Drawing, total-length, LeftmostDrawing}
 use Rattle.drawing.specs.Arcs.{edge-arc, minimum-arc, maximum-arc, separation-arcs, layer-arcs, network}
 use Rattle.drawing.specs.laws.SameDrawings.{feasible-drawing, drawings-modelled}
@@ -99,7 +100,8 @@ unfolding network sheet-of
 sheet-hangs s =
     record {
       hook = λ v h.
-          hook-second (map edge-arc (sheet-of s .edges)) (flatMap (layer-arcs (sheet-of s .width) (sheet-of s .nodes)) (sheet-of s .layers))
+          hook-second (map edge-arc (traces (sheet-of s .edges)))
+          (flatMap (layer-arcs (sheet-of s .width) (sheet-of s .nodes)) (sheet-of s .layers))
           (layers-hook (sheet-of s .width) (sheet-of s .nodes) (getD s layers-at 0) 0 (drop first-layer-at s) v zero-le h);
     }
 

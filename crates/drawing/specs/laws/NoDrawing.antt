@@ -1,4 +1,4 @@
--- A list shows that a sheet has no drawing where it meets the rules with 0 for every plain edge and its bound is above
+-- A list shows that a sheet has no drawing where it meets the rules with 0 for every plain trace and its bound is above
 -- 0: it meets the rules of the network without costs, where every drawing's total is 0.
 use mathlib.Core.Path.{_≡_, refl, sym, _∙_, ap, subst}
 use mathlib.Core.List.{List, [], _∷_, map}
@@ -25,12 +25,12 @@ use Rattle.drawing.specs.laws.Terms.{layer-all, network-all}
 use Rattle.drawing.specs.laws.SameRules.{same-rules, same-bound}
 use Rattle.drawing.specs.laws.SameDrawings.{drawing-feasible}
 
--- a plain edge's multiplier is 0
+-- the multiplier of an edge that carries no straight trace is 0
 abbrev pub idle-edge : ℕ → ℤ → Bool
 idle-edge zero y = eqZ y (pos 0)
 idle-edge (suc kind) y = true
 
--- the list meets the rules, with 0 for every plain edge, and its bound (floor) is above 0
+-- the list meets the rules, with 0 for every plain trace, and its bound (floor) is above 0
 unfoldable pub shows-none : Sheet → List ℤ → Bool
 shows-none S y =
     meets-rules S y &&
@@ -46,11 +46,11 @@ hard-flows [] y = refl
 hard-flows (a ∷ arcs) y =
     ap (λ (fs : List Flow). record { on = hard-arc a; amount = getD y 0 (pos 0) } ∷ fs) (hard-flows arcs (drop 1 y))
 
--- an edge's multiplier is allowed without the cost, where it is 0 for a plain edge
-hard-edge : (kind u v : ℕ) (y : ℤ) → T (idle-edge kind y)
-    → T (allowed (hard-flow (record { on = edge-arc-between kind u v; amount = y })))
-hard-edge zero u v y t = subst (λ (z : ℤ). T (leZ (pos 0) z && leZ z (pos 0))) (sym (eqZ→eq y (pos 0) t)) tt
-hard-edge (suc kind) u v y t = tt
+-- an edge's multiplier is allowed without the cost, where it is 0 for a plain trace
+hard-edge : (kind weight u v : ℕ) (y : ℤ) → T (idle-edge kind y)
+    → T (allowed (hard-flow (record { on = edge-arc-between kind weight u v; amount = y })))
+hard-edge zero weight u v y t = subst (λ (z : ℤ). T (leZ (pos 0) z && leZ z (pos 0))) (sym (eqZ→eq y (pos 0) t)) tt
+hard-edge (suc kind) weight u v y t = tt
 
 -- the arc of a maximum separation, set or not, allows the same without its cost, which is none
 hard-maximum : (maximum v : ℕ) (y : ℤ)
@@ -74,7 +74,7 @@ module _ (S : Sheet) (y : List ℤ) (t : T (shows-none S y)) where
   abbrev sheet-flows : List Flow
   sheet-flows = flows (network S .arcs) y
 
-  -- the multiplier of every plain edge is 0
+  -- the multiplier of every plain trace is 0
   abbrev idle : Bool
   idle = all (λ e. idle-edge (e .edge .kind) (e .amount)) (certificate S y .edges)
 
@@ -103,7 +103,7 @@ module _ (S : Sheet) (y : List ℤ) (t : T (shows-none S y)) where
       rw (hard-flows (network S .arcs) y, all-image allowed hard-flow sheet-flows, network-all S y (λ f. allowed (hard-flow f)))
       (and-both (all edge-test es) (all hard-layer-test ls)
       (all-map (λ e. idle-edge (e .edge .kind) (e .amount)) edge-test
-      (λ e. hard-edge (e .edge .kind) (e .edge .upper) (e .edge .lower) (e .amount)) es (and-left idle above rest))
+      (λ e. hard-edge (e .edge .kind) (e .edge .weight) (e .edge .upper) (e .edge .lower) (e .amount)) es (and-left idle above rest))
       (subst T (sym (all-ext hard-layer-test layer-test (hard-layer (S .width) (S .nodes)) ls))
       (and-right (all (λ e. allowed (edge-flow e)) es) (all layer-test ls)
       (subst T (network-all S y allowed) (and-left (all allowed sheet-flows) (balanced (network S .nodes) sheet-flows) rule)))))

@@ -9,13 +9,14 @@ use lib.ListN.{length, getD, drop}
 use Rattle.network.specs.Sums.{all}
 use Rattle.network.specs.laws.Tests.{and-both}
 use Rattle.leb128.specs.Grammar.{Accepts}
-use Rattle.sheet.specs.Limits.{max-separation, max-kind}
+use Rattle.sheet.specs.Limits.{max-separation}
 use Rattle.sheet.specs.Layout.{layers-at, first-layer-at, nodes-at, separations-at, separation-stride, minimum-at, maximum-at, edge-count-at, edges-at, edge-stride, next-layer, behind-layers, node-count}
 use Rattle.sheet.specs.Grammar.{sheet}
 use Rattle.sheet.specs.laws.Sheets.{good-layout}
 use Rattle.drawing.specs.Sheet.{Edge, pairs-of, layers-of, first-nodes, edge-of, edges-of, sheet-of}
 use Rattle.drawing.specs.laws.Good.{GoodPair, GoodPairs, GoodLayers, GoodEdges}
 use Rattle.drawing.specs.Proper.{not-crossed, proper-pair, proper-edge, Proper}
+use Rattle.drawing.specs.laws.ProperEdges.{parts-edge}
 use Rattle.drawing.specs.laws.GoodNumbers.{last-first-node, accepts-good}
 
 -- a good pair is proper
@@ -52,9 +53,7 @@ edges-proper n first zero s g = tt
 edges-proper n first (suc m) s g =
     let e : Edge = edge-of first s in
     and-both (proper-edge n e) (all (proper-edge n) (edges-of first m (drop edge-stride s)))
-    (and-both (ltb (e .upper) n && ltb (e .lower) n) (leb (e .kind) max-kind)
-    (and-both (ltb (e .upper) n) (ltb (e .lower) n) (lt→ltb (e .upper) n (g .0 .upper)) (lt→ltb (e .lower) n (g .0 .lower)))
-    (le→leb (e .kind) max-kind (g .0 .kind)))
+    (parts-edge n e (record { upper = g .0 .upper; lower = g .0 .lower; kind = g .0 .kind; weight = omega arith }))
     (edges-proper n first m (drop edge-stride s) (g .1))
 
 -- there are as many edges as their count says

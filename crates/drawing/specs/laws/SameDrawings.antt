@@ -15,13 +15,15 @@ use Rattle.network.specs.Sums.{sum, all}
 use Rattle.network.specs.laws.Tests.{and-left, and-right, and-both, all-ext, all-and, all-map, all-append, all-flat, all-image}
 use Rattle.network.specs.laws.Sums.{sum-append, sum-image, sum-flat, sum-null, sum-pos}
 use Rattle.network.specs.Network.{Arc, Feasible, integers, Least, LeftmostLeast, legal, cost, total}
-use Rattle.drawing.specs.Sheet.{Pair, Layer, Sheet, pairs-of, layers-of, first-nodes, sheet-of}
+use Rattle.drawing.specs.Sheet.{Pair, Layer, Edge, Sheet, pairs-of, layers-of, first-nodes, sheet-of}
+use Rattle.drawing.specs.Traces.{traces}
 use Rattle.sheet.specs.Layout.{layers-at, first-layer-at, nodes-at, separations-at, separation-stride, minimum-at, maximum-at, next-layer}
-use Rattle.drawing.specs.Drawing.{coordinate, within-maximum, separated, edge-aligned, Drawing, edge-length, total-length}
+use Rattle.drawing.specs.Drawing.{coordinate, within-maximum, separated, edge-aligned, Drawing, weighted-length, total-length}
 use Rattle.drawing.specs.Drawing.{LeastDrawing, LeftmostDrawing}
 use Rattle.drawing.specs.Arcs.{edge-arc, layer-arcs, network}
 use Rattle.network.specs.laws.Integers.{+ℤ-none}
 use Rattle.network.specs.laws.Models.{Models, models-least, models-leftmost}
+use Rattle.drawing.specs.laws.Traces.{aligned-traces}
 use Rattle.drawing.specs.laws.ArcTests.{edge-is, layer-is, edge-cost, layer-cost}
 
 -- a layer's pairs have their separations, and its last node is within the width
@@ -35,10 +37,12 @@ unfolding network
 legals-is S p e =
     let arcs : Layer → List Arc = layer-arcs (S .width) (S .nodes) in
     let test : Arc → Bool = legal (integers p) in
-    all-append test (map edge-arc (S .edges)) (flatMap arcs (S .layers))
+    let ts : List Edge = traces (S .edges) in
+    all-append test (map edge-arc ts) (flatMap arcs (S .layers))
     ∙ ap₂ _&&_
-    (all-image test edge-arc (S .edges) ∙ all-ext (λ x. test (edge-arc x)) (edge-aligned p) (λ x. edge-is p (x .kind) (x .upper) (x .lower))
-    (S .edges))
+    (all-image test edge-arc ts
+    ∙ all-ext (λ x. test (edge-arc x)) (edge-aligned p) (λ x. edge-is p (x .kind) (x .weight) (x .upper) (x .lower)) ts
+    ∙ aligned-traces p (S .edges))
     (all-flat test arcs (S .layers) ∙ all-ext (λ l. all test (arcs l)) (layer-test (S .width) p) (layer-is p (S .width) (S .nodes) e)
     (S .layers))
 
@@ -87,11 +91,12 @@ module _ (S : Sheet) (p : List ℕ) where
   same-total d =
       let arcs : Layer → List Arc = layer-arcs (S .width) (S .nodes) in
       let costs : Arc → ℤ = cost (integers p) in
-      sum-append costs (map edge-arc (S .edges)) (flatMap arcs (S .layers))
+      let ts : List Edge = traces (S .edges) in
+      sum-append costs (map edge-arc ts) (flatMap arcs (S .layers))
       ∙ ap₂ _+ℤ_
-      (sum-image costs edge-arc (S .edges)
-      ∙ sum-pos (edge-aligned p) (λ e. costs (edge-arc e)) (edge-length p) (λ e. edge-cost p (e .kind) (e .upper) (e .lower)) (S .edges)
-      (d .straight))
+      (sum-image costs edge-arc ts
+      ∙ sum-pos (edge-aligned p) (λ e. costs (edge-arc e)) (weighted-length p)
+      (λ e. edge-cost p (e .kind) (e .weight) (e .upper) (e .lower)) ts (subst T (sym (aligned-traces p (S .edges))) (d .straight)))
       (sum-flat costs arcs (S .layers) ∙ sum-null (λ l. sum costs (arcs l)) (layer-cost p (S .width) (S .nodes)) (S .layers))
       ∙ +ℤ-idr (pos (total-length S p))
 

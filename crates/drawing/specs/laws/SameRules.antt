@@ -20,9 +20,10 @@ use Rattle.drawing.specs.Certificate.{PairTerm, LayerTerm, Certificate, 
 use Rattle.drawing.specs.laws.Terms.{edge-flow, minimum-flow, maximum-flow, layer-flows, layer-all, layer-sum, network-all, network-sum}
 
 -- an edge's arc allows what the limits of its multiplier do
-same-edge-limits : (kind u v : ℕ) (y : ℤ) → allowed (record { on = edge-arc-between kind u v; amount = y }) ≡ edge-limits kind y
-same-edge-limits zero u v y = refl
-same-edge-limits (suc kind) u v y = refl
+same-edge-limits : (kind weight u v : ℕ) (y : ℤ)
+    → allowed (record { on = edge-arc-between kind weight u v; amount = y }) ≡ edge-limits kind weight y
+same-edge-limits zero weight u v y = refl
+same-edge-limits (suc kind) weight u v y = refl
 
 -- so does the arc of a maximum separation, set or not
 same-maximum-limits : (maximum v : ℕ) (y : ℤ)
@@ -51,16 +52,16 @@ same-limits : (S : Sheet) (y : List ℤ) → all allowed (flows (network S .arcs
 same-limits S y =
     network-all S y allowed
     ∙ ap₂ _&&_
-    (all-ext (λ e. allowed (edge-flow e)) (λ e. edge-limits (e .edge .kind) (e .amount))
-    (λ e. same-edge-limits (e .edge .kind) (e .edge .upper) (e .edge .lower) (e .amount)) (certificate S y .edges))
+    (all-ext (λ e. allowed (edge-flow e)) (λ e. edge-limits (e .edge .kind) (e .edge .weight) (e .amount))
+    (λ e. same-edge-limits (e .edge .kind) (e .edge .weight) (e .edge .upper) (e .edge .lower) (e .amount)) (certificate S y .edges))
     (all-ext (λ l. all allowed (layer-flows (S .width) (S .nodes) l)) layer-limits (same-layer-limits (S .width) (S .nodes)) (certificate S y .layers))
 
 module _ (v : ℕ) where
   -- an edge's multiplier counts at its lower end, and against its upper one
-  edge-inflow : (kind u w : ℕ) (y : ℤ)
-      → inflow v (record { on = edge-arc-between kind u w; amount = y }) ≡ only w y v -ℤ only u y v
-  edge-inflow zero u w y = refl
-  edge-inflow (suc kind) u w y = refl
+  edge-inflow : (kind weight u w : ℕ) (y : ℤ)
+      → inflow v (record { on = edge-arc-between kind weight u w; amount = y }) ≡ only w y v -ℤ only u y v
+  edge-inflow zero weight u w y = refl
+  edge-inflow (suc kind) weight u w y = refl
 
   -- that of a maximum separation counts at the right node, and against the left one
   maximum-inflow : (maximum u : ℕ) (y : ℤ)
@@ -109,7 +110,7 @@ module _ (S : Sheet) (y : List ℤ) where
       network-sum S y (inflow v)
       ∙ ap₂ _+ℤ_
       (sum-ext (λ e. inflow v (edge-flow e)) (λ e. only (e .edge .lower) (e .amount) v -ℤ only (e .edge .upper) (e .amount) v)
-      (λ e. edge-inflow v (e .edge .kind) (e .edge .upper) (e .edge .lower) (e .amount)) (C .edges)
+      (λ e. edge-inflow v (e .edge .kind) (e .edge .weight) (e .edge .upper) (e .edge .lower) (e .amount)) (C .edges)
       ∙ sum-sub (λ e. only (e .edge .lower) (e .amount) v) (λ e. only (e .edge .upper) (e .amount) v) (C .edges))
       (sum-ext (λ l. sum (inflow v) (layer-flows (S .width) (S .nodes) l)) (λ l. layer-smaller v l -ℤ layer-greater v l)
       (layer-inflow v (S .width) (S .nodes) h) (C .layers)
@@ -135,9 +136,9 @@ module _ (S : Sheet) (y : List ℤ) where
       (below-ext (λ v. eqZ (sum (inflow v) (flows (network S .arcs) y)) (pos 0)) (balanced-at C) (S .nodes) same-balance)
 
 -- an edge adds nothing to the bound
-edge-bound : (kind u v : ℕ) (y : ℤ) → bound-term (record { on = edge-arc-between kind u v; amount = y }) ≡ pos 0
-edge-bound zero u v y = ap negℤ (*ℤ-zero y)
-edge-bound (suc kind) u v y = ap negℤ (*ℤ-zero y)
+edge-bound : (kind weight u v : ℕ) (y : ℤ) → bound-term (record { on = edge-arc-between kind weight u v; amount = y }) ≡ pos 0
+edge-bound zero weight u v y = ap negℤ (*ℤ-zero y)
+edge-bound (suc kind) weight u v y = ap negℤ (*ℤ-zero y)
 
 -- a maximum separation takes its product with the multiplier from the bound
 maximum-bound : (maximum v : ℕ) (y : ℤ) → bound-term (record { on = maximum-arc maximum v; amount = y }) ≡ negℤ (pos maximum *ℤ y)
@@ -179,7 +180,9 @@ same-bound S y =
     let maxima : LayerTerm → ℤ = λ l. sum maximum-term (l .pairs) in
     let right : LayerTerm → ℤ = λ l. pos (S .width) *ℤ l .right in
     network-sum S y bound-term
-    ∙ ap₂ _+ℤ_ (sum-null (λ e. bound-term (edge-flow e)) (λ e. edge-bound (e .edge .kind) (e .edge .upper) (e .edge .lower) (e .amount)) (C .edges))
+    ∙ ap₂ _+ℤ_
+    (sum-null (λ e. bound-term (edge-flow e))
+    (λ e. edge-bound (e .edge .kind) (e .edge .weight) (e .edge .upper) (e .edge .lower) (e .amount)) (C .edges))
     (sum-ext (λ l. sum bound-term (layer-flows (S .width) (S .nodes) l)) (λ l. (minima l -ℤ maxima l) -ℤ right l) (layer-bound (S .width) (S .nodes)) (C .layers)
     ∙ sum-sub (λ l. minima l -ℤ maxima l) right (C .layers)
     ∙ ap₂ _-ℤ_ (sum-sub minima maxima (C .layers)) (sum-times (pos (S .width)) (λ l. l .right) (C .layers)))

@@ -2,7 +2,7 @@
 use mathlib.Core.Path.{_≡_, refl, sym, _∙_, ap, ap₂, subst, fun-ext}
 use mathlib.Core.List.{List, [], _∷_, map}
 use mathlib.Core.Bool.{Bool, _&&_}
-use Prim.Native.Nat.{ℕ, zero, suc, _+_, _-_, _≤_, _<_, zero-le}
+use Prim.Native.Nat.{ℕ, zero, suc, _+_, _-_, _*_, _≤_, _<_, zero-le}
 use native.Mathlib.Nat.{le-of-suc-le-suc, not-suc-le-zero}
 use native.Mathlib.Omega.{arith}
 use lib.Dec.{T, ltb, ltb→lt, leb, leb→le, le→leb, eqb, eqb-refl}
@@ -17,13 +17,17 @@ use Rattle.network.specs.Sums.{sumℕ, all}
 use Rattle.network.specs.laws.Tests.{not-not, and-left, and-right, and-both, all-map₂, all-ext}
 use Rattle.network.specs.laws.Sums.{sumℕ-ext}
 use Rattle.network.specs.Network.{potential, integers}
-use Rattle.drawing.specs.Assignment.{least-of, greatest-of, extent, within-maximumZ, separatedZ, alignedZ, edge-alignedZ, Assignment, edge-lengthZ, total-lengthZ, shifted}
+use Rattle.drawing.specs.Assignment.{least-of, greatest-of, extent, within-maximumZ, separatedZ, alignedZ}
+use Rattle.drawing.specs.Assignment.{edge-alignedZ, Assignment, edge-lengthZ, weighted-lengthZ, total-lengthZ, shifted}
 use Rattle.network.specs.laws.UpperBounds.{integer-potential}
 use Rattle.drawing.specs.laws.Extents.{least-le, le-greatest, least-is, greatest-is}
 use Rattle.drawing.specs.Sheet.{Pair, Edge, Sheet}
-use Rattle.drawing.specs.Drawing.{coordinate, within-maximum, separated, aligned, edge-aligned, Drawing, edge-length, total-length}
+use Rattle.drawing.specs.Traces.{traces}
+use Rattle.drawing.specs.Drawing.{coordinate, within-maximum, separated, aligned}
+use Rattle.drawing.specs.Drawing.{edge-aligned, Drawing, edge-length, weighted-length, total-length}
 use Rattle.drawing.specs.laws.SameDrawings.{inside-at, at-inside}
-use Rattle.sheet.specs.Limits.{max-separation, max-kind}
+use Rattle.drawing.specs.laws.ProperEdges.{edge-parts, proper-traces}
+use Rattle.sheet.specs.Limits.{max-separation}
 use Rattle.drawing.specs.Proper.{not-crossed, proper-edge, proper-pair, Proper}
 
 -- an element of a mapped list, where it is there
@@ -112,10 +116,8 @@ module _ (S : Sheet) (proper : Proper S) (x : List ℤ) (a : Assignment S x) whe
   -- the two ends of an edge have coordinates
   ends : (e : Edge) → T (proper-edge (S .nodes) e) → (e .upper < length x) × (e .lower < length x)
   ends e t =
-      let both : T (ltb (e .upper) (S .nodes) && ltb (e .lower) (S .nodes)) = and-left (ltb (e .upper) (S .nodes) && ltb (e .lower) (S .nodes)) (leb (e .kind) max-kind) t in (
-        inside (e .upper) (and-left (ltb (e .upper) (S .nodes)) (ltb (e .lower) (S .nodes)) both),
-        inside (e .lower) (and-right (ltb (e .upper) (S .nodes)) (ltb (e .lower) (S .nodes)) both),
-      )
+      let p = edge-parts (S .nodes) e t in
+      (omega (arith, p .upper, a .size), omega (arith, p .lower, a .size))
 
   -- a shift keeps the separations of a pair
   separated-shifted : (n : Pair) → T (proper-pair (S .nodes) n) → T (separatedZ x n) → T (separated (shifted x) n)
@@ -146,8 +148,9 @@ module _ (S : Sheet) (proper : Proper S) (x : List ℤ) (a : Assignment S x) whe
   -- with the same total
   pub shifted-total : total-length S (shifted x) ≡ total-lengthZ S x
   unfolding total-length total-lengthZ
-  shifted-total = sumℕ-ext (proper-edge (S .nodes)) (edge-length (shifted x)) (edge-lengthZ x)
-      (λ e i. shift-length x (e .upper) (e .lower) (ends e i .0) (ends e i .1)) (S .edges) (proper .ends)
+  shifted-total = sumℕ-ext (proper-edge (S .nodes)) (weighted-length (shifted x)) (weighted-lengthZ x)
+      (λ e i. ap (λ (n : ℕ). e .weight * n) (shift-length x (e .upper) (e .lower) (ends e i .0) (ends e i .1)))
+      (traces (S .edges)) (proper-traces S proper)
 
   -- source 004's order: x(u) < x(v) for a node u and its right neighbour v
   pub ordered : T (all (λ l. all (λ n. ltZ (potential x (n .left)) (potential x (suc (n .left)))) (l .pairs)) (S .layers))
@@ -233,4 +236,5 @@ module _ (S : Sheet) (p : List ℕ) where
   -- with the same total
   pub drawing-length : total-lengthZ S (integers p) ≡ total-length S p
   unfolding total-length total-lengthZ
-  drawing-length = ap (λ (f : Edge → ℕ). sumℕ f (S .edges)) (fun-ext (length-is p))
+  drawing-length =
+      ap (λ (f : Edge → ℕ). sumℕ f (traces (S .edges))) (fun-ext (λ e. ap (λ (n : ℕ). e .weight * n) (length-is p e)))

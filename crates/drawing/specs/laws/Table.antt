@@ -11,6 +11,7 @@ use Rattle.network.specs.laws.Residuals.{residuals}
 use Rattle.network.specs.laws.HeldSearch.{held-set}
 use Rattle.network.specs.laws.HeldOnly.{leftmost-test}
 use Rattle.drawing.specs.Sheet.{sheet-of}
+use Rattle.drawing.specs.Traces.{traces}
 use Rattle.drawing.specs.Drawing.{is-drawing, total-length}
 use Rattle.drawing.specs.Certificate.{meets-rules, bound}
 use Rattle.drawing.specs.Judged.{judged}
@@ -23,7 +24,7 @@ use Rattle.drawing.specs.laws.Rows.{every}
 -- every row holds
 pub sheets : Every table
 unfolding
-    flatMap table sheet-of total-length is-drawing meets-rules bound judged network residuals held-set leftmost-test shows-none
+    flatMap table sheet-of traces total-length is-drawing meets-rules bound judged network residuals held-set leftmost-test shows-none
     decode grouped within both crossed separation separations layers edge edges sheet
     decoded-item byte-item raised in-bytes checked led followed walk same complete walk-bytes made reading read-sheet
 sheets = every table tt

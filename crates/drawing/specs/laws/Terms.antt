@@ -14,8 +14,10 @@ use Rattle.network.specs.laws.Sums.{sum-ext, sum-append, sum-image, sum-flat}
 use Rattle.network.specs.Network.{Arc, upper-bound}
 use Rattle.network.specs.Flows.{Flow, flows}
 use Rattle.drawing.specs.Sheet.{Pair, Layer, Edge, Sheet}
+use Rattle.drawing.specs.Traces.{traces}
 use Rattle.drawing.specs.Arcs.{edge-arc, minimum-arc, maximum-arc, separation-arcs, layer-arcs, network}
 use Rattle.drawing.specs.Certificate.{EdgeTerm, PairTerm, LayerTerm, edge-terms, pair-terms, layer-term, layer-terms, certificate, last-node}
+use Rattle.drawing.specs.laws.Traces.{traces-length}
 
 -- the flow of an edge
 abbrev pub edge-flow : EdgeTerm → Flow
@@ -105,9 +107,10 @@ pub network-flows : (S : Sheet) (y : List ℤ)
     → flows (network S .arcs) y ≡ map edge-flow (certificate S y .edges) ++ flatMap (layer-flows (S .width) (S .nodes)) (certificate S y .layers)
 unfolding network
 network-flows S y =
-    flows-append (map edge-arc (S .edges)) (flatMap (layer-arcs (S .width) (S .nodes)) (S .layers)) y
-    ∙ ap₂ _++_ (edges-are (S .edges) y)
-    (ap (λ (n : ℕ). flows (flatMap (layer-arcs (S .width) (S .nodes)) (S .layers)) (drop n y)) (length-map (S .edges) edge-arc)
+    flows-append (map edge-arc (traces (S .edges))) (flatMap (layer-arcs (S .width) (S .nodes)) (S .layers)) y
+    ∙ ap₂ _++_ (edges-are (traces (S .edges)) y)
+    (ap (λ (n : ℕ). flows (flatMap (layer-arcs (S .width) (S .nodes)) (S .layers)) (drop n y))
+    (length-map (traces (S .edges)) edge-arc ∙ traces-length (S .edges))
     ∙ layers-are (S .width) (S .nodes) (S .layers) (drop (length (S .edges)) y))
 
 module _ (width ground : ℕ) (t : Flow → Bool) where

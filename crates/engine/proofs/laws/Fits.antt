@@ -6,8 +6,9 @@ use mathlib.Core.List.{List}
 use native.Mathlib.Decide.{ℕ-discrete}
 use native.Mathlib.Omega.{arith}
 use borrow.Author.Tests.{ne-eqb}
-use lib.Dec.{T}
+use lib.Dec.{T, ltb→lt, leb→le}
 use lib.IntN.{ℤ, pos, negsuc, _-ℤ_}
+use Rattle.sheet.specs.Limits.{max-weight}
 use Rattle.network.specs.Sums.{all}
 use Rattle.network.specs.Network.{limit, Arc, Network, Feasible, integers}
 use Rattle.network.specs.Packed.{stride, kink-at, low-at, high-at, kink-zero, flow-zero, low-none, high-none, low-of, high-of}
@@ -39,8 +40,7 @@ low-number l t = go (ℕ-discrete l low-none)
     stored : (z : ℤ) → up z + flow-zero ≡ down z + l → T (low-near (limit z)) → LowIn l
     stored (pos zero) e t = record { top = omega arith; soft = λ f. omega arith }
     stored (pos (suc n)) e t = absurd t
-    stored (negsuc zero) e t = record { top = omega arith; soft = λ f. omega arith }
-    stored (negsuc (suc n)) e t = absurd t
+    stored (negsuc n) e t = record { top = omega arith; soft = λ f. omega (arith, ltb→lt n max-weight t) }
 
     go : Dec (l ≡ low-none) → LowIn l
     go (yes e) = record { top = omega arith; soft = λ f. absurd (f e) }
@@ -52,9 +52,7 @@ unfolding high-of up down
 high-number l t = go (ℕ-discrete l high-none)
   where
     stored : (z : ℤ) → up z + flow-zero ≡ down z + l → T (high-near (limit z)) → HighIn l
-    stored (pos zero) e t = record { bottom = omega arith; soft = λ f. omega arith }
-    stored (pos (suc zero)) e t = record { bottom = omega arith; soft = λ f. omega arith }
-    stored (pos (suc (suc n))) e t = absurd t
+    stored (pos n) e t = record { bottom = omega arith; soft = λ f. omega (arith, leb→le n max-weight t) }
     stored (negsuc n) e t = absurd t
 
     go : Dec (l ≡ high-none) → HighIn l

@@ -1,4 +1,4 @@
--- On every row of document 01's table each answer that meets the contract of drawing is the row's, and the checker says yes
+-- On every row of the table each answer that meets the contract of drawing is the row's, and the checker says yes
 -- and no as the row does. So the contracts shut out every program that answers one of these sheets otherwise, as one that
 -- solves the first two layers and packs the others to the left.
 use Prim.Native.Nat.{ℕ}

@@ -20,6 +20,7 @@ use Rattle.sheet.specs.laws.Sheets.{read-accepted}
 use Rattle.network.specs.Sums.{all}
 use Rattle.network.specs.laws.Tests.{and-left, and-right}
 use Rattle.drawing.specs.Sheet.{Sheet, sheet-of, at-width}
+use Rattle.drawing.specs.Traces.{traces}
 use Rattle.drawing.specs.Drawing.{LeastDrawing, NoDrawing, is-drawing, total-length}
 use Rattle.drawing.specs.Certificate.{meets-rules, bound}
 use Rattle.drawing.specs.Judged.{judged}
@@ -103,7 +104,7 @@ every-narrowed (r ∷ rows) t =
 -- the table
 pub widths-answered : EveryNarrowed width-table
 unfolding
-    flatMap width-table sheet-of total-length is-drawing meets-rules bound judged shows-none
+    flatMap width-table sheet-of traces total-length is-drawing meets-rules bound judged shows-none
     decode grouped within both crossed separation separations layers edge edges sheet
     decoded-item byte-item raised in-bytes checked led followed walk same complete walk-bytes made reading read-sheet
 widths-answered = every-narrowed width-table tt

@@ -9,25 +9,25 @@ use Rattle.arcs.proofs.lengths.total.Statement.{statement}
 use Rattle.arcs.proofs.lengths.total.Tie as tie
 
 abbrev Inv-loop : tie.InvT-loop
-Inv-loop arcs places sum₀ at₀ left₀ sum at left = Adding places arcs left at sum
+Inv-loop arcs places sum₀ i₀ left₀ sum i left = Adding places arcs left i sum
 
 abbrev μ-loop : tie.MeasureT-loop
-μ-loop arcs places sum₀ at₀ left₀ sum at left = left
+μ-loop arcs places sum₀ i₀ left₀ sum i left = left
 
 loop-holds : tie.Need-loop-holds Inv-loop μ-loop
 loop-holds c = adding-begin _ _
 
-length-at-requires : tie.Need-length-at-requires Inv-loop μ-loop
-length-at-requires c κs = omega (arith, c .before .loop .inv .inside)
+counted-requires : tie.Need-counted-requires Inv-loop μ-loop
+counted-requires c κs = search needs
 
 capped-requires : tie.Need-capped-requires Inv-loop μ-loop
-capped-requires c κs = (c .before .before .loop .inv .small, c .length-at .ensures .fits)
+capped-requires c κs = c .before .before .loop .inv .small
 
-add-at : tie.Need-add-at Inv-loop μ-loop
-add-at c = omega (arith, c .before .before .before .loop .inv .inside)
+add-i : tie.Need-add-i Inv-loop μ-loop
+add-i c = omega (arith, c .before .before .before .loop .inv .inside)
 
 sub-left : tie.Need-sub-left Inv-loop μ-loop
-sub-left c = search needs
+sub-left c = omega arith
 
 loop-less : tie.Need-loop-less Inv-loop μ-loop
 loop-less c = omega arith
@@ -35,8 +35,9 @@ loop-less c = omega arith
 loop-again : tie.Need-loop-again Inv-loop μ-loop
 loop-again c =
     let loop = c .before .before .before .loop in
-    adding-next (loop .inv) (c .before .before .loop-test .taken)
-    (c .capped .ensures ∙ ap (λ (x : ℕ). min u32-most (loop .sum + x)) (c .before .length-at .ensures .is))
+    let loop-test = c .before .before .loop-test in
+    adding-next (loop .inv) (loop-test .taken) (c .capped .ensures ∙ ap (λ (x : ℕ). min u32-most (loop .sum + x))
+    (c .before .counted .ensures))
 
 cast-result : tie.Need-cast-result Inv-loop μ-loop
 cast-result c = omega (arith, c .before .loop .inv .small)
@@ -51,9 +52,9 @@ total-spec =
     Inv-loop
     μ-loop
     loop-holds
-    length-at-requires
+    counted-requires
     capped-requires
-    add-at
+    add-i
     sub-left
     loop-less
     loop-again
