@@ -2,9 +2,11 @@
 //!
 //! The list has a pull for each edge, then for each layer the push of the left boundary
 //! (document 01: wall), two pushes for each pair of neighbours, and the push of the right
-//! boundary. Lists here are at least as long as their sheet needs; the excess is not looked at.
+//! boundary. Of parallel edges the first carries the pull of their trace, and the others carry 0.
+//! Lists here are at least as long as their sheet needs; the excess is not looked at.
 
 use crate::drawing::{Layer, Separation, Sheet};
+use crate::traces::{pulls, Pull};
 
 /// The pushes on two neighbours in a layer.
 struct PairPushes<'a> {
@@ -28,9 +30,22 @@ pub fn length(sheet: &Sheet) -> usize {
 
 /// Whether a list meets the rules: each number its limits, and all of them the balance.
 pub fn meets_rules(sheet: &Sheet, list: &[i32]) -> bool {
-    pulls_within_limits(sheet, list)
-        && pushes_within_limits(sheet, list)
-        && pulled(sheet, list) == pushed(sheet, list)
+    pulls_within_limits(&pulls(sheet), list) && meets_other_rules(sheet, list)
+}
+
+/// Whether a list meets the rules but for the limits of pulls.
+pub fn meets_other_rules(sheet: &Sheet, list: &[i32]) -> bool {
+    pushes_within_limits(sheet, list) && pulled(sheet, list) == pushed(sheet, list)
+}
+
+/// Whether each pull at the front of a list is one that its edge may carry.
+pub fn pulls_within_limits(pulls: &[Pull], list: &[i32]) -> bool {
+    let mut pulls = pulls.iter().zip(list);
+    pulls.all(|(pull, n)| match pull {
+        Pull::None => *n == 0,
+        Pull::Plain => (-1..=1).contains(n),
+        Pull::Free => true,
+    })
 }
 
 /// The floor: no drawing has a smaller total if the list meets the rules.
@@ -46,12 +61,6 @@ pub fn floor(sheet: &Sheet, list: &[i32]) -> i64 {
         floor -= i64::from(sheet.width) * pushes.right;
     }
     floor
-}
-
-/// Whether the pull of every plain edge is -1, 0 or 1.
-fn pulls_within_limits(sheet: &Sheet, list: &[i32]) -> bool {
-    let mut pulls = sheet.edges.iter().zip(list);
-    pulls.all(|(edge, pull)| edge.straight || (-1..=1).contains(pull))
 }
 
 /// Whether no push is below 0, and no maximum pushes that is not set.

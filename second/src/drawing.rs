@@ -4,6 +4,7 @@
 
 use crate::refusal::Refusal;
 use crate::sheet::{read, NUMBER_LIMIT, STRAIGHT};
+use crate::traces::traces;
 
 /// The separation of two neighbours in a layer.
 #[derive(Clone, Debug, PartialEq, Eq)]
@@ -29,6 +30,13 @@ pub struct Edge {
     pub upper: usize,
     pub lower: usize,
     pub straight: bool,
+}
+
+impl Edge {
+    /// The upper and the lower end.
+    pub fn ends(&self) -> (usize, usize) {
+        (self.upper, self.lower)
+    }
 }
 
 /// A good sheet in its parts.
@@ -114,10 +122,10 @@ pub fn is_drawing(sheet: &Sheet, places: &[u16]) -> bool {
             .all(|edge| !edge.straight || distance(edge.upper, edge.lower) == 0)
 }
 
-/// The total: the sum of the lengths (document 01: runs) of all edges.
+/// The total: the sum of the lengths (document 01: runs) of all edges, parallel ones counted once.
 pub fn total(sheet: &Sheet, places: &[u16]) -> u32 {
-    let length = |edge: &Edge| u32::from(places[edge.upper].abs_diff(places[edge.lower]));
-    sheet.edges.iter().map(length).sum()
+    let length = |&(upper, lower): &(usize, usize)| places[upper].abs_diff(places[lower]);
+    traces(sheet).keys().map(length).map(u32::from).sum()
 }
 
 /// Every drawing of a tiny sheet, found by trying every list of places.

@@ -19,4 +19,5 @@ pub mod sheet;
 pub mod simplex;
 pub mod solver;
 pub mod source;
+pub mod traces;
 pub mod tree;

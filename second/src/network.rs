@@ -5,6 +5,7 @@
 //! flows in as flows out; its floor is the cost of the flow, negated.
 
 use crate::drawing::{Layer, Sheet};
+use crate::traces::{pulls, Pull};
 
 /// More than any flow that is found here.
 pub const UNLIMITED: i64 = 1 << 40;
@@ -21,9 +22,18 @@ pub struct Arc {
 
 /// The arcs of a sheet, in the order of its pull list.
 pub fn arcs(sheet: &Sheet) -> Vec<Arc> {
+    arcs_with(sheet, &pulls(sheet))
+}
+
+/// The same where the edges may carry these pulls.
+pub fn arcs_with(sheet: &Sheet, pulls: &[Pull]) -> Vec<Arc> {
     let mut arcs = Vec::new();
-    for edge in &sheet.edges {
-        let greatest = if edge.straight { UNLIMITED } else { 1 };
+    for (edge, pull) in sheet.edges.iter().zip(pulls) {
+        let greatest = match pull {
+            Pull::None => 0,
+            Pull::Plain => 1,
+            Pull::Free => UNLIMITED,
+        };
         arcs.push(Arc {
             tail: edge.upper,
             head: edge.lower,

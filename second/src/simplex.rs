@@ -79,13 +79,13 @@ impl Simplex {
         let mut arcs = Vec::new();
         let mut links = vec![0; ground];
         for (i, arc) in network.iter().enumerate() {
-            let is_push = arc.least == 0;
+            let is_one_way = arc.least == 0;
             let is_to_left = arc.head == ground || arc.head + 1 == arc.tail;
-            if is_push && is_to_left && arc.tail != ground {
+            if is_one_way && is_to_left && arc.tail != ground {
                 links[arc.tail] = arcs.len();
             }
             arcs.push(one_way(i, 1, (arc.tail, arc.head), arc.cost, arc.greatest));
-            if !is_push {
+            if !is_one_way {
                 arcs.push(one_way(i, -1, (arc.head, arc.tail), -arc.cost, -arc.least));
             }
         }
