@@ -1,4 +1,4 @@
-//! The examples of document 01.
+//! The examples of document 01, and those of document 02's ticket 4.
 
 use crate::draft::Draft;
 use second::sheet::{PLAIN, STRAIGHT, WIDTH_LIMIT};
@@ -55,17 +55,69 @@ pub fn two_over_three(maximum: u16) -> Draft {
         .edge(1, 2, 3, PLAIN)
 }
 
-/// One node over three.
+/// One node over three, with two parallel edges to the third.
 pub fn one_over_three() -> Draft {
+    one_over_three_of([PLAIN, PLAIN])
+}
+
+/// The same where the parallel edges have these kinds.
+pub fn one_over_three_of(kinds: [u16; 2]) -> Draft {
     Draft::new(2, &[1, 3])
         .edge(1, 1, 1, PLAIN)
-        .edge(1, 1, 3, PLAIN)
-        .edge(1, 1, 3, PLAIN)
+        .edge(1, 1, 3, kinds[0])
+        .edge(1, 1, 3, kinds[1])
+}
+
+/// The same with the other edge between the parallel ones.
+pub fn one_over_three_apart() -> Draft {
+    let mut draft = one_over_three();
+    draft.edges.swap(0, 1);
+    draft
 }
 
 /// One node, width 0 and no edges.
 pub fn one_node() -> Draft {
     Draft::new(0, &[1])
+}
+
+/// A sheet with parallel edges, and its answer.
+pub struct Traced {
+    pub name: &'static str,
+    pub draft: Draft,
+    pub total: u32,
+    pub places: [u16; 4],
+    pub list: [i32; 11],
+}
+
+/// The sheets of ticket 4 with their answers.
+pub fn traced() -> [Traced; 3] {
+    let answer = |name, draft, places, list| Traced {
+        name,
+        draft,
+        total: 2,
+        places,
+        list,
+    };
+    [
+        answer(
+            "one node over three",
+            one_over_three(),
+            [0, 0, 1, 2],
+            [-1, 1, 0, 0, 0, 0, 1, 0, 1, 0, 0],
+        ),
+        answer(
+            "the same, another edge between the parallel ones",
+            one_over_three_apart(),
+            [0, 0, 1, 2],
+            [1, -1, 0, 0, 0, 0, 1, 0, 1, 0, 0],
+        ),
+        answer(
+            "the same, the second parallel edge straight",
+            one_over_three_of([PLAIN, STRAIGHT]),
+            [2, 0, 1, 2],
+            [-1, 2, 0, 0, 1, 1, 2, 0, 2, 0, 0],
+        ),
+    ]
 }
 
 /// The sheets on either side of each edge, with names; some have no drawing.

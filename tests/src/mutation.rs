@@ -152,20 +152,31 @@ pub fn around_pairs(sheet: &Sheet, list: &[i32], amount: i32) -> Vec<Vec<i32>> {
     results
 }
 
-/// The lists in which an amount is moved from one edge to a later one with the same ends.
+/// The lists in which an amount is moved from one edge to a later parallel one.
+///
+/// The balance stays as it is; where the list meets the rules, none of these does.
 pub fn around_parallel_edges(sheet: &Sheet, list: &[i32], amount: i32) -> Vec<Vec<i32>> {
-    let mut results = Vec::new();
+    let moved = |(from, to)| moved_pull(list, from, to, amount);
+    parallel_pairs(sheet).into_iter().map(moved).collect()
+}
+
+/// The list with an amount moved from one pull to another.
+pub fn moved_pull(list: &[i32], from: usize, to: usize, amount: i32) -> Vec<i32> {
+    let mut result = list.to_vec();
+    result[from] = result[from].wrapping_sub(amount);
+    result[to] = result[to].wrapping_add(amount);
+    result
+}
+
+/// The indices of every two parallel edges, the first in the sheet first.
+pub fn parallel_pairs(sheet: &Sheet) -> Vec<(usize, usize)> {
+    let mut pairs = Vec::new();
     for (i, edge) in sheet.edges.iter().enumerate() {
-        for (j, other) in sheet.edges.iter().enumerate().skip(i + 1) {
-            if (edge.upper, edge.lower) == (other.upper, other.lower) {
-                let mut result = list.to_vec();
-                result[i] -= amount;
-                result[j] += amount;
-                results.push(result);
-            }
-        }
+        let later = sheet.edges.iter().enumerate().skip(i + 1);
+        let parallel = later.filter(|(_, other)| other.ends() == edge.ends());
+        pairs.extend(parallel.map(|(j, _)| (i, j)));
     }
-    results
+    pairs
 }
 
 /// Adds an amount to a random cycle of flows, in the direction in which it is found.

@@ -33,7 +33,7 @@ pub fn traps() -> Vec<Trap> {
         ),
         trap(
             "drawn without the width and squeezed",
-            double_stair(),
+            wide_stair(),
             squeezed,
         ),
         trap(
@@ -41,20 +41,30 @@ pub fn traps() -> Vec<Trap> {
             document::two_over_three(0),
             limited,
         ),
-        trap(
-            "rounded averages of neighbours",
-            document::one_over_three(),
-            |sheet| Some(averaged(sheet)),
-        ),
+        trap("rounded averages of neighbours", uneven_three(), |sheet| {
+            Some(averaged(sheet))
+        }),
         trap("no single node can move", fixed_pair(), |sheet| {
             Some(moved(sheet))
         }),
     ]
 }
 
-/// The stair in width 2 with its second edge twice.
-fn double_stair() -> Draft {
-    document::stair(2, PLAIN).edge(2, 2, 1, PLAIN)
+/// A stair in width 3 with one edge at its first step and two at its second.
+fn wide_stair() -> Draft {
+    Draft::new(3, &[2, 3, 3])
+        .edge(1, 2, 1, PLAIN)
+        .edge(2, 2, 1, PLAIN)
+        .edge(2, 3, 2, PLAIN)
+}
+
+/// One node over three that fill the width, the third far from the others.
+fn uneven_three() -> Draft {
+    Draft::new(4, &[1, 3])
+        .separation(2, 2, 3, 0)
+        .edge(1, 1, 1, PLAIN)
+        .edge(1, 1, 2, PLAIN)
+        .edge(1, 1, 3, PLAIN)
 }
 
 /// Two nodes of fixed distance over four that fill the width; they belong over the last two.

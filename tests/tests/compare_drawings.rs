@@ -6,7 +6,7 @@ use library::Proved;
 use second::drawing::{least_drawings, leftmost};
 use strip_tests::compare::{self, scale, Outcome, Tally};
 use strip_tests::draft::Draft;
-use strip_tests::families::{exhaustive, realistic, sizes};
+use strip_tests::families::{exhaustive, parallel, realistic, sizes};
 use strip_tests::generate;
 use strip_tests::random::Random;
 
@@ -76,6 +76,19 @@ fn sheets_with_parallel_edges() {
     assert_eq!(tally.drawn, 3_000 * scale());
     assert_eq!(tally.narrowed, tally.sheets);
     assert!(tally.long > tally.sheets / 2);
+}
+
+#[test]
+fn parallel_edges_of_all_kinds_in_each_order() {
+    let mut tally = Tally::default();
+    for draft in parallel::all_kinds() {
+        let outcome = compare::sheet(&Proved, &draft.bytes());
+        compare_with_brute_force(&draft, &outcome);
+        tally.add(&outcome);
+    }
+    tally.print("parallel edges of all kinds in each order");
+    assert_eq!((tally.sheets, tally.drawn), (672, 672));
+    assert!(tally.long > 300);
 }
 
 #[test]

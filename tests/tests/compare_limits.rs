@@ -1,5 +1,5 @@
-//! Sheets that just have a drawing, others that just have none, and the one with the greatest total,
-//! drawn by the library and the second implementation.
+//! Sheets that just have a drawing, others that just have none, and those with the longest edges, drawn
+//! by the library and the second implementation.
 
 mod library;
 
@@ -119,10 +119,19 @@ fn straight_edges_that_cross() {
 }
 
 #[test]
-fn greatest_total_of_any_sheet() {
+fn longest_edges_without_parallel_ones() {
     // both draw it alike, and both checkers say yes to both lists
     let outcome = compare::sheet(&Proved, &sizes::longest_edges().bytes());
-    assert_eq!(outcome.drawn, Ok((2_096_640, vec![0, 4095, 0, 4095])));
+    let (total, places) = outcome.drawn.expect("a drawing");
+    // 532 less than 512 times the width
+    assert_eq!(total, 2_096_108);
+    assert!(places.iter().all(|&place| place <= 2 || place >= 4094));
+}
+
+#[test]
+fn longest_edges_all_of_them_parallel() {
+    let outcome = compare::sheet(&Proved, &sizes::longest_parallel().bytes());
+    assert_eq!(outcome.drawn, Ok((4095, vec![0, 4095, 0, 4095])));
 }
 
 #[test]

@@ -10,7 +10,7 @@ use second::refusal::Refusal;
 use second::sheet::{PLAIN, STRAIGHT};
 use strip_tests::compare;
 use strip_tests::document::{self, NO_DRAWING, ONE_NODE, REFUSED};
-use strip_tests::families::sizes::longest_edges;
+use strip_tests::families::sizes::{longest_edges, longest_parallel};
 use strip_tests::families::widths::layer;
 
 /// Compares all that is answered to a sheet, and gives width and total, or number and offset.
@@ -59,9 +59,10 @@ fn two_over_three_without_a_maximum() {
 
 #[test]
 fn one_over_three() {
-    // every node as far left as it can would have total 4
-    let draft = document::one_over_three();
-    assert_eq!(narrowest(&draft.bytes()), Ok((2, 2)));
+    for traced in document::traced() {
+        let least = narrowest(&traced.draft.bytes());
+        assert_eq!(least, Ok((2, traced.total)), "{}", traced.name);
+    }
 }
 
 #[test]
@@ -82,7 +83,9 @@ fn exactly_4095() {
         assert_eq!(narrowest(&sheet), Ok((4095, 0)), "{minima:?}");
     }
     let longest = longest_edges().bytes();
-    assert_eq!(narrowest(&longest), Ok((4095, 2_096_640)));
+    assert_eq!(narrowest(&longest), Ok((4095, 2_096_108)));
+    let parallel = longest_parallel().bytes();
+    assert_eq!(narrowest(&parallel), Ok((4095, 4095)));
 }
 
 #[test]

@@ -64,7 +64,7 @@ fn sheets_of_the_document_have_its_totals_and_places() {
         (document::stair(2, STRAIGHT), 1, &[0, 1, 0, 1, 1, 2]),
         (document::two_over_three(1), 1, &[0, 1, 0, 1, 2]),
         (document::two_over_three(0), 0, &[0, 2, 0, 1, 2]),
-        (document::one_over_three(), 2, &[2, 0, 1, 2]),
+        (document::one_over_three(), 2, &[0, 0, 1, 2]),
         (document::one_node(), 0, &[0]),
     ];
     for (draft, total, places) in expected {
@@ -113,12 +113,39 @@ fn each_rule_of_a_drawing_counts() {
 }
 
 #[test]
-fn total_adds_every_edge() {
-    let sheet = document::one_over_three().sheet();
-    assert_eq!(total(&sheet, &[2, 0, 1, 2]), 2);
-    assert_eq!(total(&sheet, &[0, 0, 1, 2]), 4);
-    assert_eq!(total(&sheet, &[1, 0, 1, 2]), 3);
+fn sheets_of_ticket_4_have_its_totals_and_places() {
+    for traced in document::traced() {
+        let expected = Some((traced.total, traced.places.to_vec()));
+        assert_eq!(best(&traced.draft), expected, "{}", traced.name);
+    }
+}
+
+#[test]
+fn total_adds_every_edge_and_parallel_ones_once() {
+    let sheet = Draft::new(5, &[1, 3])
+        .edge(1, 1, 3, PLAIN)
+        .edge(1, 1, 1, PLAIN)
+        .edge(1, 1, 3, STRAIGHT)
+        .edge(1, 1, 2, PLAIN)
+        .edge(1, 1, 1, PLAIN)
+        .edge(1, 1, 3, PLAIN)
+        .sheet();
+    assert_eq!(total(&sheet, &[0, 1, 10, 100]), 111);
+    assert_eq!(total(&sheet, &[100, 0, 0, 0]), 300);
     assert_eq!(total(&sheet, &[65535, 0, 0, 0]), 3 * 65535);
+}
+
+#[test]
+fn only_edges_with_both_ends_equal_are_parallel() {
+    // the positions are the same in both layers, and the first three edges share one end
+    let sheet = Draft::new(9, &[2, 2, 2])
+        .edge(1, 1, 1, PLAIN)
+        .edge(1, 1, 2, PLAIN)
+        .edge(1, 2, 1, PLAIN)
+        .edge(2, 1, 1, PLAIN)
+        .edge(2, 1, 2, PLAIN)
+        .sheet();
+    assert_eq!(total(&sheet, &[0, 0, 1, 1, 0, 0]), 5);
 }
 
 #[test]

@@ -59,7 +59,7 @@ fn sheets_of_the_document_get_its_answers() {
         None,
         Some((1, &[0, 1, 0, 1, 2])),
         Some((0, &[0, 2, 0, 1, 2])),
-        Some((2, &[2, 0, 1, 2])),
+        Some((2, &[0, 0, 1, 2])),
         Some((0, &[0])),
     ];
     let sheets = document::sheets();

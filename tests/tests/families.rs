@@ -2,14 +2,15 @@
 
 use std::collections::HashSet;
 
-use second::drawing::{total, Sheet};
+use second::drawing::{total, Edge, Sheet};
 use second::sheet::{read, NUMBER_LIMIT};
 use second::solver::solve;
+use second::traces::traces;
 use strip_tests::damage::DAMAGES;
 use strip_tests::draft::Draft;
 use strip_tests::families::conflicts::{crossed, held};
 use strip_tests::families::turned::{mirrored, upside_down};
-use strip_tests::families::{exhaustive, realistic, sizes, widths};
+use strip_tests::families::{exhaustive, parallel, realistic, sizes, widths};
 use strip_tests::random::Random;
 
 /// The sheet of a draft, which must be good.
@@ -38,14 +39,77 @@ fn full_sheets_have_all_nodes_and_edges() {
     }
 }
 
+/// How many different pairs of ends the edges of a sheet have.
+fn different_ends(sheet: &Sheet) -> usize {
+    let ends: HashSet<(usize, usize)> = sheet.edges.iter().map(Edge::ends).collect();
+    ends.len()
+}
+
 #[test]
 fn parallel_edges_are_parallel() {
     let mut random = Random::new(52);
     for _ in 0..200 {
         let sheet = good(&sizes::parallel(&mut random));
-        let ends = sheet.edges.iter().map(|edge| (edge.upper, edge.lower));
-        let different: HashSet<(usize, usize)> = ends.collect();
-        assert!(sheet.edges.len() >= 30 && different.len() < sheet.edges.len());
+        assert!(sheet.edges.len() >= 30 && different_ends(&sheet) < sheet.edges.len());
+        let sheet = good(&parallel::far_apart(&mut random));
+        let (first, last) = (&sheet.edges[0], &sheet.edges[sheet.edges.len() * 3 / 4..]);
+        assert!(last.iter().any(|edge| edge.ends() == first.ends()));
+    }
+}
+
+#[test]
+fn longest_edges_are_512_and_parallel_or_not() {
+    let (parallel, others) = (sizes::longest_parallel(), sizes::longest_edges());
+    let counts = |draft: &Draft| (good(draft).edges.len(), different_ends(&draft.sheet()));
+    assert_eq!(counts(&parallel), (512, 1));
+    assert_eq!(counts(&others), (512, 512));
+    assert_eq!(others.sheet().node_count(), 256);
+}
+
+#[test]
+fn parallel_edges_of_all_kinds_and_counts_differ() {
+    let (kinds, counts) = (parallel::all_kinds(), parallel::all_counts());
+    for sheets in [&kinds, &counts] {
+        let different: HashSet<Vec<u8>> = sheets.iter().map(Draft::bytes).collect();
+        assert_eq!(different.len(), sheets.len());
+        assert!(sheets.iter().all(|draft| good(draft).edges.len() >= 2));
+    }
+    assert!(counts.iter().any(|draft| draft.edges.len() == 512));
+}
+
+#[test]
+fn layers_of_64_have_nodes_64_apart_and_straight_edges_at_every_place() {
+    let mut random = Random::new(58);
+    let (mut is_first, mut is_later) = (false, false);
+    for _ in 0..50 {
+        let sheet = good(&parallel::layers_of_64(&mut random));
+        assert_eq!((sheet.node_count(), sheet.edges.len()), (256, 512));
+        let ends: HashSet<(usize, usize)> = sheet.edges.iter().map(Edge::ends).collect();
+        let apart = |&(upper, lower): &(usize, usize)| ends.contains(&(upper + 64, lower + 64));
+        assert!(ends.iter().any(apart));
+        for (&(upper, lower), trace) in &traces(&sheet) {
+            let first = &sheet.edges[trace.first];
+            assert_eq!(first.ends(), (upper, lower));
+            is_first |= trace.straight && first.straight;
+            is_later |= trace.straight && !first.straight;
+        }
+    }
+    assert!(is_first && is_later);
+}
+
+#[test]
+fn the_only_straight_edge_is_a_later_one() {
+    let mut random = Random::new(59);
+    for _ in 0..300 {
+        let draft = sizes::medium(&mut random);
+        let changed = parallel::only_later_straight(&mut random, &draft).expect("edges");
+        let sheet = good(&changed);
+        let straight: Vec<usize> = (0..sheet.edges.len())
+            .filter(|&i| sheet.edges[i].straight)
+            .collect();
+        assert_eq!(straight.len(), 1);
+        let ends = sheet.edges[straight[0]].ends();
+        assert!(traces(&sheet)[&ends].first < straight[0]);
     }
 }
 

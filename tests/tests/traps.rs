@@ -7,9 +7,9 @@ use strip_tests::traps::traps;
 /// For each trap the answer's places and total, and the trap's total.
 const ANSWERS: [(&[u16], u32, Option<u32>); 5] = [
     (&[0, 1, 1, 2, 2, 3], 0, Some(2)),
-    (&[0, 1, 0, 1, 1, 2], 1, Some(2)),
+    (&[0, 1, 0, 1, 2, 1, 2, 3], 1, Some(2)),
     (&[0, 2, 0, 1, 2], 0, None),
-    (&[2, 0, 1, 2], 2, Some(3)),
+    (&[1, 0, 1, 4], 4, Some(5)),
     (&[2, 3, 0, 1, 2, 3], 0, Some(4)),
 ];
 

@@ -4,7 +4,7 @@ use super::{Call, Group};
 use crate::document::{self, NO_DRAWING, ONE_NODE, REFUSED};
 use crate::draft::Draft;
 use crate::families::conflicts::spiral;
-use crate::families::sizes::longest_edges;
+use crate::families::sizes::{longest_edges, longest_parallel};
 use crate::families::widths::{in_width, layer};
 use second::sheet::{LAYER_LIMIT, PLAIN, STRAIGHT, WIDTH_LIMIT};
 
@@ -89,8 +89,10 @@ fn widths() -> Group {
 /// Sheets with extreme numbers.
 fn extremes() -> Group {
     let mut group = Group::new("the minimum width of sheets with extreme numbers");
-    group.note("512 edges as long as the greatest width");
+    group.note("512 edges about as long as the greatest width, no two parallel");
     group.narrowest(&longest_edges().bytes());
+    group.note("512 parallel edges as long as the greatest width");
+    group.narrowest(&longest_parallel().bytes());
     group.note("a spiral of straight edges that just closes");
     group.narrowest(&spiral(&[1; LAYER_LIMIT as usize], 0).bytes());
     group.note("a spiral of straight edges that misses by 1: refused");

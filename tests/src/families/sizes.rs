@@ -1,10 +1,10 @@
-//! Random sheets of medium and of full size, and with many parallel edges, and the one with the longest
+//! Random sheets of medium and of full size, and with many parallel edges, and those with the longest
 //! edges; all have a drawing.
 
 use crate::draft::Draft;
 use crate::planted::{planted, Plan};
 use crate::random::Random;
-use second::sheet::{EDGE_LIMIT, NODE_LIMIT, PLAIN, WIDTH_LIMIT};
+use second::sheet::{EDGE_LIMIT, LAYER_LIMIT, NODE_LIMIT, PLAIN, WIDTH_LIMIT};
 
 /// One of some numbers.
 fn one_of(random: &mut Random, numbers: &[u16]) -> u16 {
@@ -49,14 +49,43 @@ pub fn parallel(random: &mut Random) -> Draft {
     planted(random, &plan)
 }
 
-/// A sheet with the greatest total of all: two layers that fill the greatest width, and all edges from
-/// the left to the right.
-pub fn longest_edges() -> Draft {
+/// Two layers that fill the greatest width, and 512 parallel edges from the left to the right.
+pub fn longest_parallel() -> Draft {
     let mut draft = Draft::new(WIDTH_LIMIT, &[2, 2])
         .separation(1, 1, WIDTH_LIMIT, 0)
         .separation(2, 1, WIDTH_LIMIT, WIDTH_LIMIT);
     for _ in 0..EDGE_LIMIT {
         draft = draft.edge(1, 1, 2, PLAIN);
+    }
+    draft
+}
+
+/// 256 nodes in 64 layers, each next to a boundary, and 512 edges across, of which no two are parallel.
+///
+/// Every node has one place only, and the edges are as long as they can be then.
+pub fn longest_edges() -> Draft {
+    // how many nodes of a layer, from 1, stand at the left boundary and at the right one
+    let sides = |layer: u16| match layer {
+        1 | LAYER_LIMIT => (1, 1),
+        10 | 20 | 30 | 40 => (3, 2),
+        _ => (2, 2),
+    };
+    let count = |layer| sides(layer).0 + sides(layer).1;
+    let counts: Vec<u16> = (1..=LAYER_LIMIT).map(count).collect();
+    let mut draft = Draft::new(WIDTH_LIMIT, &counts);
+    for layer in 1..=LAYER_LIMIT {
+        let left = sides(layer).0;
+        let across = WIDTH_LIMIT + 2 - count(layer);
+        draft = draft.separation(layer.into(), left.into(), across, 0);
+    }
+    for layer in 1..LAYER_LIMIT {
+        for upper in 1..=count(layer) {
+            for lower in 1..=count(layer + 1) {
+                if (upper <= sides(layer).0) != (lower <= sides(layer + 1).0) {
+                    draft = draft.edge(layer, upper, lower, PLAIN);
+                }
+            }
+        }
     }
     draft
 }

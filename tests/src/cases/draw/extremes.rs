@@ -3,14 +3,16 @@
 use super::Group;
 use crate::draft::Draft;
 use crate::families::conflicts::spiral;
-use crate::families::sizes::longest_edges;
+use crate::families::sizes::{longest_edges, longest_parallel};
 use second::sheet::{LAYER_LIMIT, STRAIGHT, WIDTH_LIMIT};
 
 /// One sheet for each extreme, and those next to it.
 pub fn sheets() -> Group {
     let mut group = Group::new("drawing sheets with extreme numbers");
-    group.note("512 edges as long as the greatest width: yes");
+    group.note("512 edges about as long as the greatest width, no two parallel: yes");
     group.draw_exactly(&longest_edges());
+    group.note("512 parallel edges as long as the greatest width: yes");
+    group.draw_exactly(&longest_parallel());
     group.note("a straight chain through 64 layers at the right boundary: yes");
     group.draw_exactly(&chain());
     group.note("a spiral of straight edges that just closes: yes");
