@@ -6,8 +6,9 @@ use second::sheet::{PLAIN, STRAIGHT};
 use second::solver::solve;
 use strip_tests::document::{self, FIRST_LIST};
 use strip_tests::draft::Draft;
+use strip_tests::families::parallel::{balanced, between_two};
 use strip_tests::generate::{good, tiny};
-use strip_tests::mutation::circulate;
+use strip_tests::mutation::{around_parallel_edges, circulate};
 use strip_tests::random::Random;
 
 /// How many random tiny sheets a test takes.
@@ -55,19 +56,67 @@ fn floor_weighs_each_push() {
     assert_eq!(floor(&sheet, &[i32::MIN; 11]), sum * i64::from(i32::MIN));
 }
 
+/// Whether pulls of edges of these kinds between two nodes meet the rules, balanced by the boundaries.
+fn may_pull(kinds: &[u16], pulls: &[i32]) -> bool {
+    meets_rules(&between_two(3, kinds).sheet(), &balanced(pulls))
+}
+
 #[test]
 fn plain_pulls_have_limits_and_straight_ones_have_none() {
-    let parallel = |kind| {
-        let draft = Draft::new(3, &[1, 1]);
-        draft.edge(1, 1, 1, kind).edge(1, 1, 1, kind).sheet()
-    };
-    let (plain, straight) = (parallel(PLAIN), parallel(STRAIGHT));
     for pull in [0, 1, -1, 2, -2, i32::MAX] {
-        let list = [pull, -pull, 0, 0, 0, 0];
-        assert!(meets_rules(&straight, &list));
-        assert_eq!(meets_rules(&plain, &list), pull.abs() <= 1);
+        assert!(may_pull(&[STRAIGHT], &[pull]));
+        assert_eq!(may_pull(&[PLAIN], &[pull]), pull.abs() <= 1);
     }
-    assert!(!meets_rules(&straight, &[i32::MIN, i32::MIN, 0, 0, 0, 0]));
+}
+
+#[test]
+fn the_first_parallel_edge_is_free_if_any_is_straight() {
+    for count in 1..=4 {
+        for choice in 0..1 << count {
+            let kinds: Vec<u16> = (0..count).map(|i| choice >> i & 1).collect();
+            for pull in [0, 1, -1, 2, -2, i32::MAX] {
+                let mut pulls = vec![0; count];
+                pulls[0] = pull;
+                let is_allowed = pull.abs() <= 1 || kinds.contains(&STRAIGHT);
+                assert_eq!(may_pull(&kinds, &pulls), is_allowed);
+            }
+        }
+    }
+}
+
+#[test]
+fn later_parallel_edges_carry_0() {
+    for kinds in [[PLAIN; 3], [STRAIGHT; 3], [PLAIN, STRAIGHT, PLAIN]] {
+        assert!(may_pull(&kinds, &[1, 0, 0]));
+        for pulls in [
+            [0, 1, 0],
+            [0, 0, 1],
+            [0, 0, -1],
+            [1, -1, 0],
+            [1, 0, -1],
+            [0, 1, -1],
+            [-1, 1, 0],
+            [2, -1, 0],
+            [1, 1, 1],
+            [0, i32::MAX, -i32::MAX],
+        ] {
+            assert!(!may_pull(&kinds, &pulls), "{pulls:?}");
+        }
+    }
+}
+
+#[test]
+fn lists_of_ticket_4_meet_the_rules() {
+    for traced in document::traced() {
+        let sheet = traced.draft.sheet();
+        assert!(meets_rules(&sheet, &traced.list), "{}", traced.name);
+        assert_eq!(floor(&sheet, &traced.list), traced.total.into());
+        for pull in [1, -1, 2] {
+            for list in around_parallel_edges(&sheet, &traced.list, pull) {
+                assert!(!meets_rules(&sheet, &list), "{}", traced.name);
+            }
+        }
+    }
 }
 
 #[test]

@@ -1,6 +1,6 @@
 //! Near misses: number lists, places and pull lists that differ a little from good ones.
 
-use crate::mutation::circulate;
+use crate::mutation::{circulate, moved_pull, parallel_pairs};
 use crate::random::Random;
 use second::drawing::Sheet;
 
@@ -72,7 +72,24 @@ fn lists(random: &mut Random, sheet: &Sheet, list: &[i32]) -> Vec<Vec<i32>> {
         lists.push(changed);
     }
     lists.push(vec![0; list.len()]);
+    lists.extend(parallel(random, sheet, list));
     lists
+}
+
+/// Lists in which a pull, or 1 of it, is moved between two parallel edges; none where there are no such
+/// edges. The balance stays.
+fn parallel(random: &mut Random, sheet: &Sheet, list: &[i32]) -> Vec<Vec<i32>> {
+    let pairs = parallel_pairs(sheet);
+    if pairs.is_empty() {
+        return Vec::new();
+    }
+    let (from, to) = pairs[random.index(pairs.len())];
+    let mut amounts = vec![1, -1];
+    if list[from].abs() > 1 {
+        amounts.push(list[from]);
+    }
+    let moved = |amount| moved_pull(list, from, to, amount);
+    amounts.into_iter().map(moved).collect()
 }
 
 /// Places with one node, one layer or all nodes moved, and extreme places.
