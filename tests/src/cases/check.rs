@@ -91,6 +91,7 @@ pub fn stored() -> Vec<Group> {
     vec![
         document::sheets(),
         document::without_drawing(),
+        document::parallel_edges(),
         slices::refusals(),
     ]
 }

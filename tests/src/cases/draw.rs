@@ -37,6 +37,7 @@ impl Group {
 pub fn stored() -> Vec<Group> {
     vec![
         document::sheets(),
+        document::parallel_edges(),
         document::widths(),
         document::refusals(),
         traps::sheets(),

@@ -1,9 +1,9 @@
-//! The sheets of document 01.
+//! The sheets of document 01, and those of document 02's ticket 4.
 
 use super::{Case, Group};
 use crate::document::{self, FIRST_LIST};
 use crate::draft::Draft;
-use crate::mutation::around_layers;
+use crate::mutation::{around_layers, moved_pull, parallel_pairs};
 use second::certificate;
 use second::drawing::{total, Sheet};
 use second::sheet::{PLAIN, STRAIGHT};
@@ -52,6 +52,22 @@ pub fn without_drawing() -> Group {
     group.check_tight(&Case::new(&two_nodes, &[0, 0], &[0; 4]));
     group.check_tight(&Case::new(&two_nodes, &[0, 1], &[0; 4]));
     floors(&mut group);
+    group
+}
+
+/// The sheets with parallel edges, with their lists and with the pull on the later edge.
+pub fn parallel_edges() -> Group {
+    let mut group = Group::new("checking parallel edges, of which the first carries the pull");
+    for traced in document::traced() {
+        let case = Case::new(&traced.draft, &traced.places, &traced.list);
+        group.note(&format!("{}: yes", traced.name));
+        group.check_tight(&case);
+        group.note("its pull on the later parallel edge: no");
+        for (first, later) in parallel_pairs(&traced.draft.sheet()) {
+            let list = moved_pull(&traced.list, first, later, traced.list[first]);
+            group.check_tight(&Case::new(&traced.draft, &traced.places, &list));
+        }
+    }
     group
 }
 

@@ -3,6 +3,7 @@
 use super::{document::zeros, Case, Group};
 use crate::document;
 use crate::draft::Draft;
+use crate::families::parallel::between_two;
 use second::sheet::{PLAIN, STRAIGHT, WIDTH_LIMIT};
 
 /// The least number.
@@ -29,97 +30,85 @@ pub fn neighbours() -> Group {
     group
 }
 
-/// Two nodes, one above the other, with this many straight edges between them.
-fn straight_edges(count: usize) -> Draft {
-    let mut draft = Draft::new(3, &[1, 1]);
-    for _ in 0..count {
-        draft = draft.edge(1, 1, 1, STRAIGHT);
-    }
-    draft
-}
-
-/// Adds straight edges between two nodes with these pulls.
-fn pulled(group: &mut Group, pulls: &[i32]) {
-    let list = [pulls, &[0; 4]].concat();
-    group.check_tight(&Case::new(&straight_edges(pulls.len()), &[1, 1], &list));
-}
-
 /// Pulls of straight edges.
 pub fn pulls() -> Group {
     let mut group = Group::new("pulls of straight edges at the ends of 32 bits");
-    group.note("pulls that cancel: yes");
-    let cancelling: [&[i32]; 9] = [
-        &[MAX, -MAX],
-        &[-MAX, MAX],
-        &[MAX, MIN, 1],
-        &[MIN, 1, MAX],
-        &[1, MAX, MIN],
-        &[MAX, MAX, -MAX, -MAX],
-        &[MIN, MIN, MAX, MAX, 2],
-        &[MAX, MAX, 2, MIN, MIN],
-        &[MAX, MAX, MAX, -MAX, -MAX, -MAX],
-    ];
-    for pulls in cancelling {
-        pulled(&mut group, pulls);
-    }
-    group.note("pulls that cancel in 32 bits only, or not at all: no");
-    let others: [&[i32]; 9] = [
-        &[MIN, MIN],
-        &[MAX, MAX, 2],
-        &[MIN; 4],
-        &[MAX, MIN],
-        &[MIN, MAX],
-        &[MAX, MAX],
-        &[MAX, MIN, -1],
-        &[MIN, MIN, MAX, MAX],
-        &[MIN, MIN, MIN, MAX, MAX, 2, MIN],
-    ];
-    for pulls in others {
-        pulled(&mut group, pulls);
-    }
-    many_pulls(&mut group);
+    sums(&mut group);
+    parallel_pulls(&mut group);
     pushes_against(&mut group);
     group
 }
 
-/// Adds many pulls, the sums of which pass 32 bits by far.
-fn many_pulls(group: &mut Group) {
-    group.note("32 pulls that cancel: yes");
-    pulled(group, &[MAX, -MAX].repeat(16));
-    pulled(group, &[[MAX; 16], [-MAX; 16]].concat());
-    pulled(group, &[[-MAX; 16], [MAX; 16]].concat());
-    group.note("32 pulls that cancel in 32 bits only, or not at all: no");
-    pulled(group, &[MIN; 32]);
-    pulled(group, &[MAX; 32]);
-    pulled(group, &[[MAX; 16], [MIN; 16]].concat());
-    group.note("pulls through three layers: yes");
-    let mut chain = Draft::new(3, &[1, 1, 1]);
-    for layer in [1, 1, 1, 1, 2, 2, 2, 2] {
-        chain = chain.edge(layer, 1, 1, STRAIGHT);
+/// Four layers of two nodes at 0 and 1. The first three have straight edges between equal positions; the
+/// last one has room.
+fn ladder() -> Draft {
+    let mut draft = Draft::new(1, &[2; 4])
+        .separation(2, 1, 1, 1)
+        .separation(4, 1, 1, 5);
+    for layer in [1, 2] {
+        for position in [1, 2] {
+            draft = draft.edge(layer, position, position, STRAIGHT);
+        }
     }
-    let half = [MAX, MAX, -MAX, -MAX];
-    let list = [&half[..], &half, &[0; 6]].concat();
-    group.check_tight(&Case::new(&chain, &[2, 2, 2], &list));
-    group.note("balanced at the middle layer only: no");
-    let list = [&[MAX; 8][..], &[0; 6]].concat();
-    group.check_tight(&Case::new(&chain, &[2, 2, 2], &list));
-    group.note("plain edges that cancel, out of limits: no");
-    let plain = Draft::new(3, &[1, 1])
-        .edge(1, 1, 1, PLAIN)
-        .edge(1, 1, 1, PLAIN);
-    for pulls in [[MAX, -MAX], [-MAX, MAX], [MIN, MIN]] {
-        let list = [&pulls[..], &[0; 4]].concat();
-        group.check_tight(&Case::new(&plain, &[1, 1], &list));
+    draft
+}
+
+/// A list of the ladder: these pulls, balanced in the first and the third layer; the pushes of the second
+/// one, and those of both separations of the last one.
+fn ladder_list(pull: i32, second: [i32; 4], last: i32) -> Vec<i32> {
+    let pulls = [pull, -pull, -pull, pull];
+    let outer = [0, pull, 0, 0];
+    [pulls, outer, second, outer, [0, last, last, 0]].concat()
+}
+
+/// Adds pulls and pushes whose sums at a node pass 32 bits.
+fn sums(group: &mut Group) {
+    let case = |list: &[i32]| Case::new(&ladder(), &[0, 1].repeat(4), list);
+    group.note("two pulls at a node, balanced: yes");
+    for pull in [1, MAX / 2, MAX / 2 + 1, MAX] {
+        group.check_tight(&case(&ladder_list(pull, [pull, 0, pull, pull], 0)));
     }
+    group.note("two pulls at a node, balanced in 32 bits only: no");
+    for pull in [MAX, MAX - 1, MAX - 9] {
+        let rest = pull.wrapping_mul(-2);
+        group.check_tight(&case(&ladder_list(pull, [0, rest, 0, 0], 1 << 30)));
+    }
+    group.note("two pulls at a node, one of them not balanced: no");
+    for second in [[MAX, 0, 0, 0], [0, 0, MAX, 0], [0; 4]] {
+        group.check(&case(&ladder_list(MAX, second, 0)));
+    }
+}
+
+/// Adds parallel straight edges of which later ones pull; the sums are 0, some in 32 bits only.
+fn parallel_pulls(group: &mut Group) {
+    group.note("parallel straight edges, later ones pull: no");
+    let cancelling: [&[i32]; 9] = [
+        &[MAX, -MAX],
+        &[-MAX, MAX],
+        &[MIN, MIN],
+        &[MAX, MIN, 1],
+        &[1, MAX, MIN],
+        &[MAX, MAX, 2],
+        &[0, MIN, MIN],
+        &[MIN; 32],
+        &[MAX, MAX, -MAX, -MAX],
+    ];
+    for pulls in cancelling {
+        let draft = between_two(3, &vec![STRAIGHT; pulls.len()]);
+        let list = [pulls, &[0; 4]].concat();
+        group.check_tight(&Case::new(&draft, &[1, 1], &list));
+    }
+}
+
+/// One node in each of three layers, one below the other, with straight edges.
+fn chain(width: u16) -> Draft {
+    Draft::new(width, &[1, 1, 1])
+        .edge(1, 1, 1, STRAIGHT)
+        .edge(2, 1, 1, STRAIGHT)
 }
 
 /// Adds straight edges whose pulls are balanced by pushes of boundaries.
 fn pushes_against(group: &mut Group) {
-    let chain = |width| {
-        Draft::new(width, &[1, 1, 1])
-            .edge(1, 1, 1, STRAIGHT)
-            .edge(2, 1, 1, STRAIGHT)
-    };
     let down = [MAX, MAX, 0, MAX, 0, 0, MAX, 0];
     let up = [-MAX, -MAX, MAX, 0, 0, 0, 0, MAX];
     group.note("boundaries push against the pulls, width 0: yes");
@@ -215,38 +204,33 @@ fn wrapped_floors(group: &mut Group) {
 
 /// Adds lists whose balance holds in 32 bits only; their floor equals the total.
 fn wrapped_balance(group: &mut Group) {
-    let draft = Draft::new(2, &[1, 3, 1])
+    let draft = Draft::new(2, &[1, 3, 2])
         .separation(2, 2, 1, 1)
         .edge(1, 1, 3, STRAIGHT)
         .edge(2, 2, 1, PLAIN)
-        .edge(2, 2, 1, PLAIN);
+        .edge(2, 2, 2, PLAIN);
     let pulls = [-MAX, 1, 1];
-    let layers = [MAX, 0, MAX, MAX, 0, 0, MAX, 0, 2, 0];
+    let layers = [MAX, 0, MAX, MAX, 0, 0, MAX, 0, 2, 1, 0, 0];
     group.note("the balance holds in 32 bits only: no");
     let list = [&pulls[..], &layers].concat();
-    group.check_tight(&Case::new(&draft, &[2, 0, 1, 2, 1], &list));
-    let straight = Draft {
-        width: 0,
-        ..straight_edges(2)
-    };
+    group.check_tight(&Case::new(&draft, &[2, 0, 1, 2, 1, 2], &list));
+    let chain = chain(0);
     for list in [
-        [MAX, 1, MIN, 0, MIN, 0],
-        [MAX, 1, 0, MIN, MIN, 0],
-        [MIN, 0, MIN, 0, 0, MIN],
-        [MIN, MIN, 0, 0, 0, 0],
-        [MIN, MIN, MAX, MAX, MAX, MAX],
+        [MAX, -MAX, 0, MAX, 0, 2, 0, MAX],
+        [-MAX, MAX, MAX, 0, 2, 0, MAX, 0],
+        [MAX, 1 - MAX, 0, MAX, 0, 3, 0, MAX - 1],
     ] {
-        group.check_tight(&Case::new(&straight, &[0, 0], &list));
+        group.check_tight(&Case::new(&chain, &[0; 3], &list));
     }
     group.note("the same edges, balanced: yes");
     for list in [
-        [-MAX, 0, MAX, 0, 0, MAX],
-        [MIN, 1, MAX, 0, 0, MAX],
-        [MAX / 2, MAX / 2, 0, MAX - 1, MAX - 1, 0],
-        [MAX, MIN, 1, 0, 0, 1],
-        [MAX, MIN, MAX, MAX - 1, MAX - 1, MAX],
+        [MAX, 1, 0, MAX, MAX - 1, 0, 1, 0],
+        [MAX, 0, 0, MAX, MAX, 0, 0, 0],
+        [-MAX, 0, MAX, 0, 0, MAX, 0, 0],
+        [MAX, MAX, 0, MAX, MAX, MAX, MAX, 0],
+        [1, -MAX + 1, MAX - 1, MAX, MAX, 0, 0, MAX - 1],
     ] {
-        group.check_tight(&Case::new(&straight, &[0, 0], &list));
+        group.check_tight(&Case::new(&chain, &[0; 3], &list));
     }
 }
 

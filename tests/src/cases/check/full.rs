@@ -4,6 +4,7 @@ use super::{document::zeros, Case, Group};
 use crate::draft::{Draft, Edge};
 use second::drawing::Sheet;
 use second::sheet::{EDGE_LIMIT, PLAIN, STRAIGHT, WIDTH_LIMIT};
+use second::traces::{pulls, Pull};
 
 /// The counts of nodes.
 const COUNTS: [u16; 4] = [64; 4];
@@ -66,17 +67,18 @@ fn rigid() -> Draft {
 
 /// The list of a sheet whose layers fill the width.
 ///
-/// Every plain edge is pulled toward its length. What is pulled at the nodes of a layer is added
-/// up from the left and handed on by the minima; the left boundary pushes enough for all of them.
+/// Every plain edge is pulled toward its length, parallel ones by the first. What is pulled at the nodes
+/// of a layer is added up from the left and handed on by the minima; the left boundary pushes enough
+/// for all of them.
 fn rigid_list(sheet: &Sheet, places: &[u16]) -> Vec<i32> {
     let mut list = Vec::new();
     let mut pulled = vec![0; sheet.node_count()];
-    for (i, edge) in (0..).zip(&sheet.edges) {
+    for ((i, edge), pull) in (0..).zip(&sheet.edges).zip(pulls(sheet)) {
         let run = i32::from(places[edge.lower]) - i32::from(places[edge.upper]);
-        let pull = if edge.straight {
-            1000 - 7 * i
-        } else {
-            run.signum()
+        let pull = match pull {
+            Pull::None => 0,
+            Pull::Plain => run.signum(),
+            Pull::Free => 1000 - 7 * i,
         };
         pulled[edge.lower] += pull;
         pulled[edge.upper] -= pull;

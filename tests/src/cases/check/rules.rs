@@ -3,6 +3,7 @@
 use super::{Case, Group};
 use crate::document;
 use crate::draft::Draft;
+use crate::families::parallel::{balanced, between_two};
 use crate::mutation::{around_pairs, changed, first_push, moved_pushes, pull_changes};
 use second::sheet::{PLAIN, STRAIGHT};
 
@@ -17,32 +18,62 @@ pub fn lists() -> Group {
     group
 }
 
-/// Adds pulls of two parallel edges of length 0 that have these kinds.
-fn parallel_pulls(group: &mut Group, kinds: [u16; 2], pulls: &[[i32; 2]]) {
-    let draft = Draft::new(3, &[1, 1])
-        .edge(1, 1, 1, kinds[0])
-        .edge(1, 1, 1, kinds[1]);
+/// Adds pulls of parallel edges that have these kinds, in width 0; boundaries push against all of them.
+fn balanced_pulls<const N: usize>(group: &mut Group, kinds: [u16; N], pulls: &[[i32; N]]) {
+    let draft = between_two(0, &kinds);
     for pulls in pulls {
-        let list = [&pulls[..], &[0; 4]].concat();
-        group.check_tight(&Case::new(&draft, &[2, 2], &list));
+        group.check_tight(&Case::new(&draft, &[0, 0], &balanced(pulls)));
     }
 }
 
 /// Adds pulls on either side of their limits.
 fn pulls(group: &mut Group) {
-    group.note("pulls of parallel edges, a plain one out of limits: no");
-    for kinds in [[PLAIN, PLAIN], [PLAIN, STRAIGHT], [STRAIGHT, PLAIN]] {
-        parallel_pulls(group, kinds, &[[2, -2], [-2, 2], [100, -100]]);
-    }
-    group.note("the same within limits: yes");
-    for kinds in [[PLAIN, PLAIN], [PLAIN, STRAIGHT], [STRAIGHT, PLAIN]] {
-        parallel_pulls(group, kinds, &[[0, 0], [1, -1], [-1, 1]]);
-    }
-    group.note("straight edges are free: yes");
-    parallel_pulls(group, [STRAIGHT; 2], &[[1, -1], [2, -2], [-70000, 70000]]);
+    group.note("a plain edge, its pull within limits: yes");
+    balanced_pulls(group, [PLAIN], &[[0], [1], [-1]]);
+    group.note("a plain edge, its pull out of limits: no");
+    balanced_pulls(group, [PLAIN], &[[2], [-2], [100], [-70000]]);
+    group.note("a straight edge is free: yes");
+    balanced_pulls(group, [STRAIGHT], &[[0], [1], [2], [-2], [-70000]]);
+    parallel_pulls(group);
+    let straight = between_two(3, &[STRAIGHT]);
     group.note("the floor of the pulls is kept, but not the balance: no");
-    parallel_pulls(group, [STRAIGHT; 2], &[[1, 1], [2, -1], [0, 70000]]);
+    for pull in [1, -1, 70000] {
+        let list = [pull, 0, 0, 0, 0];
+        group.check_tight(&Case::new(&straight, &[2, 2], &list));
+    }
     long_edges(group);
+}
+
+/// Adds pulls of parallel edges: only the first one pulls, as much as any of them allows.
+fn parallel_pulls(group: &mut Group) {
+    let with_straight = [[STRAIGHT, STRAIGHT], [STRAIGHT, PLAIN], [PLAIN, STRAIGHT]];
+    group.note("the first of two plain parallel edges within limits: yes");
+    balanced_pulls(group, [PLAIN; 2], &[[0, 0], [1, 0], [-1, 0]]);
+    group.note("out of limits: no");
+    balanced_pulls(group, [PLAIN; 2], &[[2, 0], [-2, 0], [100, 0]]);
+    group.note("the first of two is free where either is straight: yes");
+    for kinds in with_straight {
+        balanced_pulls(group, kinds, &[[0, 0], [1, 0], [-2, 0], [70000, 0]]);
+    }
+    group.note("the later one pulls, alone, against the first or with it: no");
+    for kinds in with_straight.into_iter().chain([[PLAIN; 2]]) {
+        let pulls = [[0, 1], [0, -1], [1, -1], [-1, 1], [1, 1], [2, -2], [0, 9]];
+        balanced_pulls(group, kinds, &pulls);
+    }
+    let one_straight = [
+        [STRAIGHT, PLAIN, PLAIN],
+        [PLAIN, STRAIGHT, PLAIN],
+        [PLAIN, PLAIN, STRAIGHT],
+    ];
+    group.note("the first of three is free where any is straight: yes");
+    for kinds in one_straight {
+        balanced_pulls(group, kinds, &[[0; 3], [2, 0, 0], [-70000, 0, 0]]);
+    }
+    group.note("the second or the third pulls: no");
+    for kinds in one_straight {
+        let pulls = [[0, 1, 0], [0, 0, 1], [0, 1, -1], [2, -1, -1], [1, 0, -1]];
+        balanced_pulls(group, kinds, &pulls);
+    }
 }
 
 /// Adds pulls of parallel plain edges that have a length.
@@ -51,14 +82,18 @@ fn long_edges(group: &mut Group) {
         .edge(1, 2, 1, PLAIN)
         .edge(1, 2, 1, PLAIN);
     let case = Case::drawn(&long);
-    group.note("parallel edges of length 1, each pulled by one: yes");
+    group.note("parallel edges of length 1, the first pulled by one: yes");
     group.check_tight(&case);
-    group.note("pulled by the same in all, out of limits: no");
-    for pull in [[-2, 0], [0, -2], [-3, 1], [1, -3]] {
+    group.note("pulled by the same in all, on the later one or out of limits: no");
+    for pull in [[0, -1], [-2, 1], [1, -2], [-3, 2]] {
         let mut case = case.clone();
         case.list[..2].copy_from_slice(&pull);
         group.check_tight(&case);
     }
+    group.note("each pulled by one, the floor as if both counted: no");
+    let pushes = case.list[2..].iter().map(|push| 2 * push);
+    let list = [-1, -1].into_iter().chain(pushes).collect();
+    group.check_lists(&case, vec![list]);
 }
 
 /// Adds pushes on either side of 0, and pushes of a maximum that is not set.

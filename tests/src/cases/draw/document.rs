@@ -1,4 +1,4 @@
-//! The sheets and refusals of document 01.
+//! The sheets and refusals of document 01, and the sheets of document 02's ticket 4.
 
 use super::Group;
 use crate::document::{self, NO_DRAWING, ONE_NODE, REFUSED};
@@ -17,6 +17,16 @@ pub fn sheets() -> Group {
         group.note(&format!("{name}: {word}"));
         group.draw_exactly(&draft);
         group.draw_with_excess(&draft, 2, 3);
+    }
+    group
+}
+
+/// The sheets with parallel edges.
+pub fn parallel_edges() -> Group {
+    let mut group = Group::new("drawing parallel edges, which count once");
+    for traced in document::traced() {
+        group.note(&format!("{}: yes", traced.name));
+        group.draw_exactly(&traced.draft);
     }
     group
 }
