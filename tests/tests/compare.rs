@@ -1,6 +1,7 @@
 //! The comparison itself: it finds each fault that a library is given, and none where there is none.
 
 mod rules;
+mod wrong;
 
 use std::panic::{catch_unwind, AssertUnwindSafe};
 
@@ -9,16 +10,18 @@ use second::certificate;
 use second::checker;
 use second::drawing::{total, Sheet};
 use second::engine;
-use second::minimum_width::{minimum_width, Minimum};
+use second::minimum_width::Minimum;
 use second::refusal::{Refusal, NO_DRAWING, NO_WIDTH, SLICE_TOO_SHORT};
 use second::sheet::{self as format, PLAIN};
 use second::solver::solve;
 use strip_tests::compare::{sheet, Library};
 use strip_tests::document::{self, REFUSED};
+use strip_tests::families::parallel;
 use strip_tests::families::turned::mirrored;
 use strip_tests::files::{self, Rows};
 use strip_tests::generate;
 use strip_tests::random::Random;
+use wrong::{Traces, Wrong, WAYS};
 
 /// What is wrong with a library.
 #[derive(Clone, Copy, Debug, PartialEq)]
@@ -50,6 +53,12 @@ enum Fault {
     NarrowestWider,
     NarrowestNumber,
     NarrowestOffset,
+    /// The engine goes by wrong traces.
+    DrawTraces(Wrong),
+    /// The checker goes by wrong traces.
+    CheckTraces(Wrong),
+    /// The total in the minimum width goes by wrong traces.
+    NarrowestTraces(Wrong),
     /// The reader of coordinate files breaks a rule.
     ReadFile(Rule),
     /// The writer of coordinate files breaks a rule.
@@ -89,6 +98,9 @@ const SHEET_FAULTS: [Fault; 26] = [
 /// All faults.
 fn faults() -> Vec<Fault> {
     let mut faults = SHEET_FAULTS.to_vec();
+    faults.extend(WAYS.map(Fault::DrawTraces));
+    faults.extend(WAYS.map(Fault::CheckTraces));
+    faults.push(Fault::NarrowestTraces(Wrong::EveryEdge));
     faults.extend(READER.map(Fault::ReadFile));
     faults.extend(WRITER.map(Fault::WriteFile));
     faults
@@ -131,7 +143,11 @@ impl Library for Faulty {
     }
 
     fn draw(&self, sheet: &[u8], places: &mut [u16], list: &mut [i32]) -> Result<u32, Refusal> {
-        let answer = engine::draw(sheet, places, list);
+        let wrong = match self.0 {
+            Fault::DrawTraces(wrong) => Some(wrong),
+            _ => None,
+        };
+        let answer = Traces(wrong).draw(sheet, places, list);
         let total = match answer {
             Ok(total) => total,
             Err(_) => {
@@ -160,7 +176,11 @@ impl Library for Faulty {
     }
 
     fn check(&self, sheet: &[u8], places: &[u16], list: &[i32]) -> Result<bool, Refusal> {
-        let answer = checker::check(sheet, places, list);
+        let wrong = match self.0 {
+            Fault::CheckTraces(wrong) => Some(wrong),
+            _ => None,
+        };
+        let answer = Traces(wrong).check(sheet, places, list);
         match (self.0, answer) {
             (Fault::CheckYes, Ok(_)) => Ok(true),
             (Fault::CheckNo, Ok(_)) => Ok(false),
@@ -179,7 +199,11 @@ impl Library for Faulty {
     }
 
     fn narrowest(&self, sheet: &[u8]) -> Result<Minimum, Refusal> {
-        let answer = minimum_width(sheet);
+        let wrong = match self.0 {
+            Fault::NarrowestTraces(wrong) => Some(wrong),
+            _ => None,
+        };
+        let answer = Traces(wrong).narrowest(sheet);
         match (self.0, answer) {
             (Fault::NarrowestMore, Ok(minimum)) => Ok(Minimum {
                 width: minimum.width + 1,
@@ -267,6 +291,8 @@ fn inputs() -> Vec<Vec<u8>> {
     let mut inputs: Vec<Vec<u8>> = REFUSED.iter().map(|(_, bytes)| bytes.to_vec()).collect();
     inputs.extend(document::sheets().iter().map(|(_, draft)| draft.bytes()));
     inputs.push(loose());
+    inputs.extend(document::traced().map(|traced| traced.draft.bytes()));
+    inputs.push(parallel::layers_of_64(&mut random).bytes());
     inputs.extend(files::GOOD.map(|(_, bytes, _)| bytes.to_vec()));
     inputs.extend(files::REFUSED.map(|(_, bytes, _)| bytes.to_vec()));
     inputs.push(files::side_by_side(4032).bytes());
