@@ -146,16 +146,17 @@ fn layer(random: &mut Random, draft: &mut Draft) {
     }
 }
 
-/// Adds an edge, or one that is there already a second time.
+/// Adds an edge, or one that is parallel to another.
 fn add_edge(random: &mut Random, draft: &mut Draft) {
     if draft.layers.len() == 1 || draft.edges.len() == EDGE_LIMIT.into() {
         return;
     }
-    let edge = if random.once_in(5) && !draft.edges.is_empty() {
-        draft.edges[random.index(draft.edges.len())].clone()
-    } else {
-        any_edge(random, draft)
-    };
+    let mut edge = any_edge(random, draft);
+    if random.once_in(5) && !draft.edges.is_empty() {
+        let kind = edge.kind;
+        let parallel = draft.edges[random.index(draft.edges.len())].clone();
+        edge = Edge { kind, ..parallel };
+    }
     let at = random.index(draft.edges.len() + 1);
     draft.edges.insert(at, edge);
 }

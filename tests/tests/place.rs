@@ -152,6 +152,16 @@ fn sheets_and_refusals_of_the_document_are_printed() {
 }
 
 #[test]
+fn parallel_edges_count_once() {
+    let lower = "2 1 0\n2 2 1\n2 3 2\n";
+    let upper = ["1 1 0\n", "1 1 0\n", "1 1 2\n"];
+    for (traced, upper) in document::traced().iter().zip(upper) {
+        let text = format!("total 2\n{upper}{lower}");
+        assert_eq!(output(&mut piped(), &traced.draft.bytes()), text);
+    }
+}
+
+#[test]
 fn sheets_of_full_size_are_printed() {
     for seed in 0..5 {
         let input = large(seed);

@@ -5,6 +5,8 @@ use super::variants::{every_damage, lengths, lists, some_damage};
 use super::Item;
 use crate::document::{self, NO_DRAWING, ONE_NODE, REFUSED};
 use crate::examples::examples;
+use crate::families::parallel::layers_of_64;
+use crate::families::sizes::longest_parallel;
 use crate::generate::{fullest, good, small, tiny};
 use crate::planted::{planted, Plan};
 use crate::random::Random;
@@ -25,12 +27,13 @@ pub fn items() -> Vec<Item> {
     items
 }
 
-/// The sheets of document 01 and the examples, good and refused.
+/// The sheets of documents 01 and 02 and the examples, good and refused.
 fn named() -> Vec<Vec<u8>> {
     let refused = REFUSED.map(|(_, bytes)| bytes.to_vec());
     let mut sheets = refused.to_vec();
     sheets.extend([NO_DRAWING.to_vec(), ONE_NODE.to_vec(), Vec::new()]);
     sheets.extend(document::sheets().iter().map(|(_, draft)| draft.bytes()));
+    sheets.extend(document::traced().map(|traced| traced.draft.bytes()));
     sheets.extend(examples().iter().map(|(_, draft)| draft.bytes()));
     sheets
 }
@@ -59,7 +62,7 @@ fn random() -> Vec<Vec<u8>> {
     sheets
 }
 
-/// Large sheets: with a drawing, the fullest ones, and with many bytes behind them.
+/// Large sheets: with a drawing, with parallel edges, the fullest ones, and with many bytes behind them.
 fn large() -> Vec<Vec<u8>> {
     let mut random = Random::new(52);
     let mut sheets = Vec::new();
@@ -74,6 +77,7 @@ fn large() -> Vec<Vec<u8>> {
             sheets.push(planted(&mut random, &plan).bytes());
         }
     }
+    sheets.extend([longest_parallel(), layers_of_64(&mut random)].map(|draft| draft.bytes()));
     for layers in [1, 4, 64] {
         sheets.extend(lengths(fullest(layers).bytes()));
     }
