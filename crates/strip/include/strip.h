@@ -86,13 +86,18 @@ uint64_t strip_write(const uint16_t *numbers, size_t numbers_len,
                      uint8_t *sheet, size_t sheet_len);
 
 /* Writes the leftmost drawing of least total, and a list that shows it to be least. The value is
- * the total. Refusals 1 to 8. STRIP_MAX_PLACES and STRIP_MAX_LIST are enough for every sheet. */
+ * the total: the lengths of the edges, added, where parallel edges (those with the same two ends)
+ * count once. The list starts with a pull for each edge, in the sheet's order: of parallel edges
+ * the first carries the pull, and each later one's is 0. Refusals 1 to 8. STRIP_MAX_PLACES and
+ * STRIP_MAX_LIST are enough for every sheet. */
 uint64_t strip_draw(const uint8_t *sheet, size_t sheet_len,
                     uint16_t *places, size_t places_len,
                     int32_t *list, size_t list_len);
 
 /* Says whether the list shows that the places are a drawing of least total. The value is 1 for
- * yes, 0 for no. Refusals 1 to 7. Elements behind those that the sheet needs are not looked at. */
+ * yes, 0 for no. The total is that of strip_draw. The pull of the first of parallel edges is -1, 0
+ * or 1, or any number where one of them is straight; where a later one's is not 0 the answer is no.
+ * Refusals 1 to 7. Elements behind those that the sheet needs are not looked at. */
 uint64_t strip_check(const uint8_t *sheet, size_t sheet_len,
                      const uint16_t *places, size_t places_len,
                      const int32_t *list, size_t list_len);
