@@ -178,7 +178,21 @@ pub fn write(numbers: &[u16], sheet: &mut [u8]) -> Result<usize, Refusal> {
 /// Writes the leftmost drawing of least total, and a list that shows it to be least, into the
 /// fronts of two slices, and gives the total.
 ///
+/// The total is the lengths of the edges, added, where parallel edges (those with the same two
+/// ends) count once. The list starts with a pull for each edge, in the sheet's order: of parallel
+/// edges the first carries the pull, and each later one's is 0.
+///
 /// Refusals 1 to 8. Slices of [`MAX_PLACES`] and [`MAX_LIST`] are long enough for every sheet.
+///
+/// ```
+/// // one node over three: an edge to the first, and two parallel edges to the third
+/// let sheet = [
+///     0x53, 0x50, 0x31, 2, 2, 1, 3, 1, 0, 1, 0, 3, 1, 1, 1, 0, 1, 1, 3, 0, 1, 1, 3, 0,
+/// ];
+/// let (mut places, mut list) = ([0; 4], [0; 11]);
+/// assert_eq!(strip::draw(&sheet, &mut places, &mut list), Ok(2));
+/// assert_eq!((places, list[2]), ([0, 0, 1, 2], 0));
+/// ```
 pub fn draw(sheet: &[u8], places: &mut [u16], list: &mut [i32]) -> Result<u32, Refusal> {
     // SAFETY: as in `read`, with one slice more.
     let answer = unsafe {
@@ -195,6 +209,9 @@ pub fn draw(sheet: &[u8], places: &mut [u16], list: &mut [i32]) -> Result<u32, R
 }
 
 /// Says whether the list shows that the places are a drawing of least total.
+///
+/// The total is that of [`draw`]. The pull of the first of parallel edges is −1, 0 or 1, or any
+/// number where one of them is straight; where a later one's is not 0 the answer is no.
 ///
 /// Refusals 1 to 7. Elements behind the ones that the sheet needs are not looked at.
 pub fn check(sheet: &[u8], places: &[u16], list: &[i32]) -> Result<bool, Refusal> {
