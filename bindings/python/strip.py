@@ -77,10 +77,11 @@ class Refusal(Exception):
 class Drawing(NamedTuple):
     """The leftmost drawing of least total, with a certificate that no total is smaller."""
 
+    # the lengths of the edges, added, where parallel edges (those with the same two ends) count once
     total: int
     # a place for each node, layer by layer, each from left to right
     places: List[int]
-    # document 01's pull list
+    # document 01's pull list: of parallel edges the first carries the pull, and each later one's is 0
     certificate: List[int]
 
 
@@ -115,7 +116,10 @@ def draw(sheet: bytes) -> Drawing:
 
 
 def check(sheet: bytes, places: Iterable[int], certificate: Iterable[int]) -> bool:
-    """Whether the certificate shows that the places are a drawing of least total."""
+    """Whether the certificate shows that the places are a drawing of least total.
+
+    The pull of the first of parallel edges is -1, 0 or 1, or any number where one of them is straight; where a
+    later one's is not 0 the answer is False."""
     return _call("strip_check", _bytes(sheet), _numbers(places), _signed(certificate)) == 1
 
 

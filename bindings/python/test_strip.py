@@ -19,6 +19,12 @@ FILE = bytes([0x53, 0x44, 0x31, 2, 2, 0, 1, 1, 0])
 DRAWING = [2, 2, 0, 1, 1, 0]
 
 
+def one_over_three(kind):
+    """Document 01's one node over three: an edge to the first, and two parallel edges to the third, of which the
+    second has this kind."""
+    return strip.write([2, 2, 1, 3, 1, 0, 1, 0, 3, 1, 1, 1, 0, 1, 1, 3, 0, 1, 1, 3, kind])
+
+
 def load_tests(loader, tests, pattern):
     """The examples of the module's text are tests too."""
     tests.addTests(doctest.DocTestSuite(strip))
@@ -47,6 +53,26 @@ class Answers(unittest.TestCase):
         self.assertIs(strip.check(SHEET, PLACES + [9], CERTIFICATE + [9]), True)
         self.assertIs(strip.check(SHEET, PLACES, [0] * 8), False)
         self.assertIs(strip.check(SHEET, [0, 2, 0], CERTIFICATE), False)
+
+    def test_parallel_edges(self):
+        """Parallel edges count once, and the first of them carries the pull."""
+        sheet, places, pushes = one_over_three(0), [0, 0, 1, 2], [0, 0, 0, 1, 0, 1, 0, 0]
+        drawing = strip.draw(sheet)
+        self.assertEqual((drawing.total, drawing.places, drawing.certificate[2]), (2, places, 0))
+        self.assertIs(strip.check(sheet, drawing.places, drawing.certificate), True)
+        self.assertIs(strip.check(sheet, places, [-1, 1, 0] + pushes), True)
+        self.assertIs(strip.check(sheet, places, [-1, 0, 1] + pushes), False)
+        self.assertEqual(strip.narrowest(sheet), strip.Narrowest(2, 2))
+
+    def test_parallel_edges_with_a_straight_one(self):
+        """Where the later one is straight, the first one's pull is free, and the later one's is 0."""
+        sheet, places, pushes = one_over_three(1), [2, 0, 1, 2], [0, 1, 1, 2, 0, 2, 0, 0]
+        drawing = strip.draw(sheet)
+        self.assertEqual((drawing.total, drawing.places, drawing.certificate[2]), (2, places, 0))
+        self.assertIs(strip.check(sheet, drawing.places, drawing.certificate), True)
+        self.assertIs(strip.check(sheet, places, [-1, 2, 0] + pushes), True)
+        self.assertIs(strip.check(sheet, places, [-1, 1, 1] + pushes), False)
+        self.assertIs(strip.check(sheet, places, [-1, 0, 2] + pushes), False)
 
     def test_narrowest(self):
         self.assertEqual(strip.narrowest(SHEET), (1, 1))
