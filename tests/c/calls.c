@@ -111,13 +111,41 @@ static void answers(void) {
     assert(room.file[9] == 0xa5);
 }
 
+/* Parallel edges count once. The first of them carries the pull, free where a later one is
+ * straight, and each later one's is 0. */
+static void parallel_edges(void) {
+    /* document 01's one node over three: an edge to the first, two parallel edges to the third */
+    uint8_t sheet[] = {0x53, 0x50, 0x31, 2, 2, 1, 3, 1, 0, 1, 0, 3,
+                       1,    1,    1,    0, 1, 1, 3, 0, 1, 1, 3, 0};
+    const uint16_t plain_places[] = {0, 0, 1, 2}, straight_places[] = {2, 0, 1, 2};
+    int32_t plain_list[] = {-1, 1, 0, 0, 0, 0, 1, 0, 1, 0, 0};
+    int32_t straight_list[] = {-1, 2, 0, 0, 1, 1, 2, 0, 2, 0, 0};
+
+    assert(draw(sheet, COUNT(sheet)) == 2);
+    assert(memcmp(room.places, plain_places, sizeof plain_places) == 0 && room.list[2] == 0);
+    assert(strip_check(sheet, COUNT(sheet), plain_places, 4, room.list, 11) == 1);
+    assert(strip_check(sheet, COUNT(sheet), plain_places, 4, plain_list, 11) == 1);
+    plain_list[1] = 0;
+    plain_list[2] = 1;
+    assert(strip_check(sheet, COUNT(sheet), plain_places, 4, plain_list, 11) == 0);
+    /* the second of the two is straight */
+    sheet[COUNT(sheet) - 1] = 1;
+    assert(draw(sheet, COUNT(sheet)) == 2);
+    assert(memcmp(room.places, straight_places, sizeof straight_places) == 0 && room.list[2] == 0);
+    assert(strip_check(sheet, COUNT(sheet), straight_places, 4, room.list, 11) == 1);
+    assert(strip_check(sheet, COUNT(sheet), straight_places, 4, straight_list, 11) == 1);
+    straight_list[1] = 1;
+    straight_list[2] = 1;
+    assert(strip_check(sheet, COUNT(sheet), straight_places, 4, straight_list, 11) == 0);
+}
+
 /* The minimum width of a sheet, whatever its own width is, and the least total there. */
 static void narrowest(void) {
     const uint8_t one_node[] = {0x53, 0x50, 0x31, 0, 1, 1, 0};
     uint8_t stair[] = {0x53, 0x50, 0x31, 0, 3, 2, 1, 0, 2, 1, 0, 2, 1, 0, 2,
                        1,    2,    1,    0, 2, 2, 1, 0};
-    /* two layers of two nodes that are 4,095 apart, and edges from the left to the right */
-    const uint16_t widest[] = {9, 2, 2, 4095, 0, 2, 4095, 4095, 2, 1, 1, 2, 0, 1, 1, 2, 0};
+    /* two layers of two nodes that are 4,095 apart, and edges between left and right */
+    const uint16_t widest[] = {9, 2, 2, 4095, 0, 2, 4095, 4095, 2, 1, 1, 2, 0, 1, 2, 1, 0};
     uint64_t length;
 
     NARROWEST(strip_narrowest(one_node, COUNT(one_node)), 0, 0);
@@ -261,7 +289,7 @@ static void empty_slices(void) {
     assert(untouched());
 }
 
-/* Lists the numbers of a sheet of full size: 4 layers of 64 nodes, 512 edges. */
+/* Lists the numbers of a sheet of full size: 4 layers of 64 nodes, 512 edges, no two parallel. */
 static size_t full_numbers(uint16_t width, uint16_t *numbers) {
     size_t count = 0;
     uint16_t layer, node, edge;
@@ -279,7 +307,7 @@ static size_t full_numbers(uint16_t width, uint16_t *numbers) {
     for (edge = 0; edge < 512; edge++) {
         numbers[count++] = 1 + edge % 3;
         numbers[count++] = 1 + edge % 64;
-        numbers[count++] = 1 + (edge * 3 + 1) % 64;
+        numbers[count++] = 1 + (edge + edge / 64 + 1) % 64;
         numbers[count++] = 0;
     }
     return count;
@@ -409,6 +437,7 @@ static void threads(void) {
 /* Runs all of it, and says so. */
 int main(void) {
     answers();
+    parallel_edges();
     narrowest();
     coordinate_files();
     refusals();
