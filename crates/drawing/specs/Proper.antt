@@ -7,7 +7,7 @@ use Rattle.network.specs.Sums.{all}
 use Rattle.sheet.specs.Limits.{max-width, max-nodes, max-separation, max-edges, max-kind, max-weight}
 use Rattle.drawing.specs.Sheet.{Pair, Edge, Sheet}
 
--- the greatest total: 512 traces of 4,095 steps
+-- no total is greater: 512 traces of 4,095 steps
 abbrev pub max-total : ℕ
 max-total = 2096640
 
