@@ -16,7 +16,7 @@ use Rattle.arcs.proofs.laws.Numbers.{number-behind}
 use Rattle.arcs.specs.Lengths.{edge-from, upper-at, lower-at, weight-of, weight-at, distance, counted-at, lengths, lengths-of}
 
 -- where there is a packed edge i, it is read
-pub edge-there : (i : ℕ) (s : List ℕ) → i < length s / stride → edge-from i s ≡ drop (stride * i) s
+edge-there : (i : ℕ) (s : List ℕ) → i < length s / stride → edge-from i s ≡ drop (stride * i) s
 edge-there i s h = rw (lt-ltb i (length s / stride) h)
 
 -- a number of it

@@ -43,15 +43,11 @@ module _ {n : ℕ} {first : List ℕ} (at : ℕ) (s : List ℕ) (g : GoodEdge n 
   pub lower-there : (1 ≤ layer + 1) × (layer + 1 ≤ length first) × (1 ≤ below) × (below < list-limit)
   lower-there = omega (arith, layer-is, below-is, e3 .fits, g .layer, g .positions)
 
-  module _ {upper lower : ℕ} (e5 : upper ≡ node-at first layer above) (e6 : lower ≡ node-at first (layer + 1) below) where
-    -- the ends are nodes
-    pub ends-few : (upper < n) × (lower < n)
-    ends-few = (rw (e5, layer-is, above-is) (g .upper), rw (e6, layer-is, below-is) (g .lower))
-
-    -- the edge
-    pub edge-is : {amount : ℕ} → amount ≡ strength-of kind 1
-        → _≡_ {A = ReadEdge} (record { upper = upper; lower = lower; strength = amount }) (as-read (edge-of first (drop at s)))
-    edge-is e7 = rw (e7, e5, e6, layer-is, above-is, below-is, kind-is)
+  -- the edge, from its ends and its strength
+  pub edge-is : {upper lower amount : ℕ} → upper ≡ node-at first layer above → lower ≡ node-at first (layer + 1) below
+      → amount ≡ strength-of kind 1
+      → _≡_ {A = ReadEdge} (record { upper = upper; lower = lower; strength = amount }) (as-read (edge-of first (drop at s)))
+  edge-is u l a = rw (a, u, l, layer-is, above-is, below-is, kind-is)
 
 -- a kind that is not 0 is straight
 pub straight : (kind : ℕ) → (kind ≡ 0 → ⊥) → max-weight + 1 ≡ strength-of kind 1
