@@ -54,25 +54,26 @@ class Answers(unittest.TestCase):
         self.assertIs(strip.check(SHEET, PLACES, [0] * 8), False)
         self.assertIs(strip.check(SHEET, [0, 2, 0], CERTIFICATE), False)
 
-    def test_parallel_edges(self):
-        """Parallel edges count once, and the first of them carries the pull."""
-        sheet, places, pushes = one_over_three(0), [0, 0, 1, 2], [0, 0, 0, 1, 0, 1, 0, 0]
+    def assert_traced(self, sheet, places, pushes, carried, *spread):
+        """The sheet is drawn there with total 2, and the later parallel edge's pull is 0. With these pushes the carried
+        pulls get a yes, and spread ones a no."""
         drawing = strip.draw(sheet)
         self.assertEqual((drawing.total, drawing.places, drawing.certificate[2]), (2, places, 0))
         self.assertIs(strip.check(sheet, drawing.places, drawing.certificate), True)
-        self.assertIs(strip.check(sheet, places, [-1, 1, 0] + pushes), True)
-        self.assertIs(strip.check(sheet, places, [-1, 0, 1] + pushes), False)
+        self.assertIs(strip.check(sheet, places, carried + pushes), True)
+        for pulls in spread:
+            self.assertIs(strip.check(sheet, places, pulls + pushes), False)
+
+    def test_parallel_edges(self):
+        """Parallel edges count once, and the first of them carries the pull."""
+        sheet = one_over_three(0)
+        self.assert_traced(sheet, [0, 0, 1, 2], [0, 0, 0, 1, 0, 1, 0, 0], [-1, 1, 0], [-1, 0, 1])
         self.assertEqual(strip.narrowest(sheet), strip.Narrowest(2, 2))
 
     def test_parallel_edges_with_a_straight_one(self):
         """Where the later one is straight, the first one's pull is free, and the later one's is 0."""
-        sheet, places, pushes = one_over_three(1), [2, 0, 1, 2], [0, 1, 1, 2, 0, 2, 0, 0]
-        drawing = strip.draw(sheet)
-        self.assertEqual((drawing.total, drawing.places, drawing.certificate[2]), (2, places, 0))
-        self.assertIs(strip.check(sheet, drawing.places, drawing.certificate), True)
-        self.assertIs(strip.check(sheet, places, [-1, 2, 0] + pushes), True)
-        self.assertIs(strip.check(sheet, places, [-1, 1, 1] + pushes), False)
-        self.assertIs(strip.check(sheet, places, [-1, 0, 2] + pushes), False)
+        sheet, pushes = one_over_three(1), [0, 1, 1, 2, 0, 2, 0, 0]
+        self.assert_traced(sheet, [2, 0, 1, 2], pushes, [-1, 2, 0], [-1, 1, 1], [-1, 0, 2])
 
     def test_narrowest(self):
         self.assertEqual(strip.narrowest(SHEET), (1, 1))

@@ -111,6 +111,18 @@ static void answers(void) {
     assert(room.file[9] == 0xa5);
 }
 
+/* Four nodes and three edges, the last two parallel, are drawn there with total 2. The list gets a
+ * yes, and a no with 1 of its pull moved to the later parallel edge. */
+static void traced(const uint8_t *sheet, size_t length, const uint16_t *places, int32_t *list) {
+    assert(draw(sheet, length) == 2);
+    assert(memcmp(room.places, places, 4 * sizeof *places) == 0 && room.list[2] == 0);
+    assert(strip_check(sheet, length, places, 4, room.list, 11) == 1);
+    assert(strip_check(sheet, length, places, 4, list, 11) == 1);
+    list[1] -= 1;
+    list[2] += 1;
+    assert(strip_check(sheet, length, places, 4, list, 11) == 0);
+}
+
 /* Parallel edges count once. The first of them carries the pull, free where a later one is
  * straight, and each later one's is 0. */
 static void parallel_edges(void) {
@@ -121,22 +133,10 @@ static void parallel_edges(void) {
     int32_t plain_list[] = {-1, 1, 0, 0, 0, 0, 1, 0, 1, 0, 0};
     int32_t straight_list[] = {-1, 2, 0, 0, 1, 1, 2, 0, 2, 0, 0};
 
-    assert(draw(sheet, COUNT(sheet)) == 2);
-    assert(memcmp(room.places, plain_places, sizeof plain_places) == 0 && room.list[2] == 0);
-    assert(strip_check(sheet, COUNT(sheet), plain_places, 4, room.list, 11) == 1);
-    assert(strip_check(sheet, COUNT(sheet), plain_places, 4, plain_list, 11) == 1);
-    plain_list[1] = 0;
-    plain_list[2] = 1;
-    assert(strip_check(sheet, COUNT(sheet), plain_places, 4, plain_list, 11) == 0);
+    traced(sheet, COUNT(sheet), plain_places, plain_list);
     /* the second of the two is straight */
     sheet[COUNT(sheet) - 1] = 1;
-    assert(draw(sheet, COUNT(sheet)) == 2);
-    assert(memcmp(room.places, straight_places, sizeof straight_places) == 0 && room.list[2] == 0);
-    assert(strip_check(sheet, COUNT(sheet), straight_places, 4, room.list, 11) == 1);
-    assert(strip_check(sheet, COUNT(sheet), straight_places, 4, straight_list, 11) == 1);
-    straight_list[1] = 1;
-    straight_list[2] = 1;
-    assert(strip_check(sheet, COUNT(sheet), straight_places, 4, straight_list, 11) == 0);
+    traced(sheet, COUNT(sheet), straight_places, straight_list);
 }
 
 /* The minimum width of a sheet, whatever its own width is, and the least total there. */

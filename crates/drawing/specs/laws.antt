@@ -2,6 +2,7 @@ pub mod TraceExamples
 pub mod Traces
 pub mod Carriers
 pub mod CarriedTraces
+pub mod AlignedTraces
 pub mod ApartEdges
 pub mod ProperEdges
 pub mod Terms

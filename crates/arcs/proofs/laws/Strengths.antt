@@ -4,27 +4,30 @@ use mathlib.Core.Path.{_≡_, refl, _∙_, ap}
 use mathlib.Core.Bool.{Bool, true, false, cond}
 use mathlib.Core.List.{List, [], _∷_}
 use native.Mathlib.Omega.{arith}
-use lib.Dec.{T, leb, leb→le}
-use lib.ListN.{drop}
+use lib.Dec.{T, leb, leb→le, le→leb}
 use borrow.Author.Tests.{le-leb}
 use Rattle.network.specs.Sums.{all}
-use Rattle.network.specs.laws.Tests.{and-left, and-right}
+use Rattle.network.specs.laws.Tests.{and-left, and-right, all-map}
 use Rattle.sheet.specs.Limits.{max-weight}
-use Rattle.sheet.specs.Layout.{edge-stride}
 use Rattle.drawing.specs.Sheet.{Edge, edges-of}
 use Rattle.drawing.specs.Traces.{parallel, any-parallel, greatest-parallel, whole-trace, bare}
 use Rattle.drawing.specs.Arcs.{edge-arc-between, edge-arc}
+use Rattle.drawing.specs.Proper.{proper-edge}
+use Rattle.drawing.specs.laws.Good.{GoodEdges}
+use Rattle.drawing.specs.laws.Proper.{edges-proper}
+use Rattle.drawing.specs.laws.ProperEdges.{edge-parts}
 use Rattle.drawing.specs.laws.Traces.{greatest-le}
 use Rattle.arcs.specs.inside.Traces.{strength-of, strength, strength-arc, strongest, left-over}
 
 -- an edge's weight is within the limit
-abbrev light : Edge → Bool
+abbrev pub light : Edge → Bool
 light e = leb (e .weight) max-weight
 
--- those of edges off their numbers are
-pub all-light : (first : List ℕ) (m : ℕ) (s : List ℕ) → T (all light (edges-of first m s))
-all-light first zero s = tt
-all-light first (suc m) s = all-light first m (drop edge-stride s)
+-- those of good edges are
+pub good-light : (n : ℕ) (first : List ℕ) (m : ℕ) (s : List ℕ) → GoodEdges n first m s → T (all light (edges-of first m s))
+good-light n first m s g =
+    all-map (proper-edge n) light (λ e t. le→leb (e .weight) max-weight (edge-parts n e t .weight)) (edges-of first m s)
+    (edges-proper n first m s g)
 
 -- of two strengths straight is the greater
 strength-max : (a b v w : ℕ) → v ≤ max-weight → w ≤ max-weight

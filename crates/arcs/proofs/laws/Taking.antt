@@ -5,12 +5,14 @@ use mathlib.Core.Path.{_≡_, refl, _∙_, ap}
 use mathlib.Core.Bool.{cond}
 use mathlib.Core.List.{List, [], _∷_, map}
 use native.Mathlib.Omega.{arith}
+use lib.Dec.{T}
 use lib.ListN.{length, getD, drop, set, length-set}
 use lib.Seq.{drop-drop}
 use Rattle.leb128.specs.inside.Storing.{Puts}
 use Rattle.leb128.specs.laws.Storing.{Left, left-begin, left-end}
 use Rattle.sheet.specs.Limits.{max-nodes}
 use Rattle.sheet.specs.Layout.{edge-stride}
+use Rattle.network.specs.Sums.{all}
 use Rattle.network.specs.Packed.{stride, packs}
 use Rattle.network.specs.laws.PackedBack.{packs-length}
 use Rattle.drawing.specs.Sheet.{Edge, edge-of, edges-of}
@@ -21,7 +23,7 @@ use Rattle.arcs.specs.inside.Traces.{as-read, strength-arc, strongest, l
 use Rattle.arcs.specs.declared.ReadEdge.{ReadEdge}
 use Rattle.arcs.proofs.laws.Numbers.{less-one}
 use Rattle.arcs.proofs.laws.Packing.{left-arcs}
-use Rattle.arcs.proofs.laws.Strengths.{all-light, left-over-arc}
+use Rattle.arcs.proofs.laws.Strengths.{light, good-light, left-over-arc}
 use Rattle.arcs.proofs.laws.TraceTable.{joins, slot-inside, taken}
 
 -- what an edge takes and writes
@@ -57,6 +59,7 @@ pub record EdgesLeft (s first : List ℕ) (start count : ℕ) (old new table tak
   pub room : n + stride * todo ≡ stride * count
   pub size : length taken ≡ length table
   pub good : GoodEdges max-nodes first todo (drop at s)
+  pub weights : T (all light (edges-of first count (drop start s)))
   pub tabled : Tabled first taken (left-over (edges-of first count (drop start s)) before)
   pub left : Left old 0 (packs (map edge-arc (traces (edges-of first count (drop start s))))) new n
       (packs (map edge-arc (traces-behind (edges-of first count (drop start s)) before (edges-of first todo (drop at s)))))
@@ -73,6 +76,7 @@ edges-begin s first start count old table h good t =
       room = omega arith;
       size = refl;
       good = good;
+      weights = good-light max-nodes first count (drop start s) good;
       tabled = record { room = t .room; number = t .number };
       left = left-begin old 0 _;
     }
@@ -94,7 +98,7 @@ module _ {s first old new table taken′ : List ℕ} {start count todo at n : �
       let j = joins (drop at s) (edge-good h) in
       let arc : strength-arc (getD taken′ (slot e) 0) (e .upper) (e .lower) ≡ edge-arc carried =
       ap (λ (a : ℕ). strength-arc a (e .upper) (e .lower)) (p .tabled .number e j)
-      ∙ left-over-arc e es (p .before) (all-light first count (drop start s)) in
+      ∙ left-over-arc e es (p .before) (p .weights) in
       let puts : Puts new n (packs (edge-arc carried ∷ [])) newer m = rw arc at (x .arc) in
       record {
         before = e ∷ p .before;
@@ -102,6 +106,7 @@ module _ {s first old new table taken′ : List ℕ} {start count todo at n : �
         room = omega (arith, p .room, puts .behind, packs-length (edge-arc carried ∷ []));
         size = ap length (x .left) ∙ length-set taken′ (slot e) 0 ∙ p .size;
         good = rest-good max-nodes first todo at s h (p .good);
+        weights = p .weights;
         tabled = rw (x .left) (taken rise es (p .before) e (p .tabled) j (slot-inside (drop at s) (omega arith) (edge-good h)));
         left = left-arcs (edge-arc carried ∷ []) (map edge-arc (traces-behind es (e ∷ p .before) rest))
             (rw (edges-next first todo at s h) at (p .left)) puts;

@@ -13,23 +13,17 @@ use lib.Seq.{getD-set-same, getD-set-other}
 use Rattle.leb128.specs.laws.Cases.{lt-or-le}
 use Rattle.network.specs.laws.Tests.{is-true, is-false, not-both}
 use Rattle.sheet.specs.Limits.{max-nodes}
-use Rattle.sheet.specs.Layout.{edge-layer-at, nodes-at, next-layer}
+use Rattle.sheet.specs.Layout.{edge-layer-at}
 use Rattle.drawing.specs.Sheet.{Edge, first-nodes, edge-of}
 use Rattle.drawing.specs.Traces.{parallel}
 use Rattle.drawing.specs.laws.Good.{GoodEdge}
+use Rattle.drawing.specs.laws.GoodNumbers.{next-first, first-nodes-length}
 use Rattle.drawing.specs.laws.Traces.{parallel-ends, ends-parallel, greatest-same}
 use Rattle.arcs.specs.inside.Traces.{strength, strongest, left-over, slots, slot-of, slot, Joins, Rising, Tabled}
 
 -- the first nodes of layers never fall
 pub rising : (k v : ℕ) (s : List ℕ) → Rising (first-nodes k v s)
-rising k v s = record { next = next k v s }
-  where
-    next : (k v : ℕ) (s : List ℕ) (i : ℕ) → suc i < length (first-nodes k v s)
-        → getD (first-nodes k v s) i 0 ≤ getD (first-nodes k v s) (suc i) 0
-    next zero v s i h = absurd (omega arith)
-    next (suc zero) v s zero h = omega arith
-    next (suc (suc k)) v s zero h = omega arith
-    next (suc k) v s (suc i) h = next k (v + getD s nodes-at 0) (next-layer s) i (omega arith)
+rising k v s = record { next = λ i h. omega (arith, next-first k v s i (omega (arith, first-nodes-length k v s))) }
 
 -- a good edge joins two layers
 pub joins : {n : ℕ} {first : List ℕ} (s : List ℕ) → GoodEdge n first s → Joins first (edge-of first s)

@@ -25,14 +25,14 @@ use Rattle.drawing.specs.laws.Traces.{traces-length}
 use Rattle.drawing.specs.laws.GoodNumbers.{accepts-good}
 use Rattle.drawing.specs.laws.Proper.{accepts-proper}
 use Rattle.drawing.specs.Proper.{proper-edge, Proper}
-use Rattle.drawing.specs.laws.Carriers.{At}
+use Rattle.drawing.specs.laws.Carriers.{At, at-listed}
 use Rattle.drawing.specs.laws.ProperEdges.{edge-parts, proper-traces}
 use Rattle.drawing.specs.laws.ArcCount.{arcs-count}
 use Rattle.drawing.specs.laws.ArcLimits.{network-storable}
 use Rattle.arcs.specs.declared.Counts.{Counts}
 use Rattle.arcs.specs.Loading.{arcs-size}
 use Rattle.arcs.specs.Lengths.{edge-from}
-use Rattle.arcs.specs.laws.PackedEdges.{Packs, at-all, packed-edge}
+use Rattle.arcs.specs.laws.PackedEdges.{Packs, packed-edge}
 use Rattle.arcs.specs.laws.Loaded.{LoadedSheet}
 
 -- the packed arcs of a good sheet of these counts, whatever stands behind them
@@ -131,4 +131,5 @@ module _ {a : List ℕ} {c : Counts} (h : Holds a c) where
   -- packed edge i of these is what edge i carries
   pub held-edge : {i : ℕ} {t : Edge} → At (traces (S .edges)) i t → Packs (edge-from i (take (stride * c .edges) a)) t
   held-edge {t = t} x =
-      rw edges-front (packed-edge x (edge-parts (S .nodes) t (at-all (proper-edge (S .nodes)) x (proper-traces S proper)) .weight))
+      let limits = edge-parts (S .nodes) t (at-listed x .passes (proper-edge (S .nodes)) (proper-traces S proper)) in
+      rw edges-front (packed-edge x (limits .weight))

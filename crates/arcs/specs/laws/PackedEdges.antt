@@ -2,15 +2,11 @@
 use Prim.Native.Nat.{ℕ, zero, suc, _+_, _*_, _/_, _≤_, _<_}
 use mathlib.Core.Path.{_≡_, refl, sym, _∙_, ap}
 use mathlib.Core.List.{List, _∷_, map}
-use mathlib.Core.Bool.{Bool}
 use native.Mathlib.Omega.{arith}
-use lib.Dec.{T}
 use lib.ListN.{length, drop, length-map}
 use lib.Seq.{drop-drop}
 use borrow.Author.Tests.{ne-eqb, lt-ltb}
 use Rattle.sheet.specs.Limits.{max-weight}
-use Rattle.network.specs.Sums.{all}
-use Rattle.network.specs.laws.Tests.{and-left, and-right}
 use Rattle.network.specs.Packed.{stride, flow-zero, high-none, packs}
 use Rattle.network.specs.laws.PackedBack.{packs-length}
 use Rattle.drawing.specs.Sheet.{Edge}
@@ -25,6 +21,11 @@ pub record Packs (s : List ℕ) (e : Edge) : Type 0 where
   pub lower : lower-at s ≡ e .lower
   pub weight : e .kind ≡ 0 → weight-at s ≡ e .weight
 
+-- the arc of an edge has its ends
+pub ends : (kind weight u v : ℕ) → (edge-arc-between kind weight u v .tail ≡ u) × (edge-arc-between kind weight u v .head ≡ v)
+ends zero weight u v = (refl, refl)
+ends (suc kind) weight u v = (refl, refl)
+
 -- a high limit that is a weight stands for it
 weight-back : (w : ℕ) → w ≤ max-weight → weight-of (flow-zero + w) ≡ w
 weight-back w h = rw (ne-eqb (flow-zero + w) high-none (λ e. omega arith)) (omega arith)
@@ -32,14 +33,10 @@ weight-back w h = rw (ne-eqb (flow-zero + w) high-none (λ e. omega arith)) (ome
 -- the first of packed edges
 pub front-packs : (e : Edge) (es : List Edge) → e .weight ≤ max-weight → Packs (packs (map edge-arc (e ∷ es))) e
 unfolding packs
-front-packs e es h = record { upper = ends (e .kind) .0; lower = ends (e .kind) .1; weight = plain (e .kind) }
+front-packs e es h =
+    let own = ends (e .kind) (e .weight) (e .upper) (e .lower) in
+    record { upper = own .0; lower = own .1; weight = plain (e .kind) }
   where
-    -- the ends, whatever the kind
-    ends : (kind : ℕ) → (edge-arc-between kind (e .weight) (e .upper) (e .lower) .tail ≡ e .upper)
-        × (edge-arc-between kind (e .weight) (e .upper) (e .lower) .head ≡ e .lower)
-    ends zero = (refl, refl)
-    ends (suc kind) = (refl, refl)
-
     -- the weight of a plain one
     plain : (kind : ℕ) → kind ≡ 0
         → weight-at (packs (edge-arc-between kind (e .weight) (e .upper) (e .lower) ∷ map edge-arc es)) ≡ e .weight
@@ -61,11 +58,6 @@ behind-packs {i = suc i} (later {x = x} {e = e} {es = es} a) h =
 at-inside : {es : List Edge} {i : ℕ} {e : Edge} → At es i e → i < length es
 at-inside here = omega arith
 at-inside (later a) = omega (arith, at-inside a)
-
--- a test that all edges pass, at one of them
-pub at-all : (t : Edge → Bool) {es : List Edge} {i : ℕ} {e : Edge} → At es i e → T (all t es) → T (t e)
-at-all t (here {e = e} {es = es}) h = and-left (t e) (all t es) h
-at-all t (later {x = x} {es = es} a) h = at-all t a (and-right (t x) (all t es) h)
 
 -- packed edge i is that of edge i
 pub packed-edge : {es : List Edge} {i : ℕ} {e : Edge} → At es i e → e .weight ≤ max-weight

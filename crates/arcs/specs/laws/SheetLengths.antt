@@ -15,19 +15,14 @@ use Rattle.network.specs.laws.Tests.{and-left, and-right}
 use Rattle.drawing.specs.Sheet.{Edge, Sheet}
 use Rattle.drawing.specs.Traces.{traces}
 use Rattle.drawing.specs.Drawing.{coordinate, aligned, edge-aligned, edge-length, weighted-length, total-length, Drawing}
-use Rattle.drawing.specs.Arcs.{edge-arc-between, edge-arc}
+use Rattle.drawing.specs.Arcs.{edge-arc}
 use Rattle.drawing.specs.Proper.{proper-edge, Proper}
-use Rattle.drawing.specs.laws.Traces.{aligned-traces}
+use Rattle.drawing.specs.laws.AlignedTraces.{aligned-traces}
 use Rattle.drawing.specs.laws.ProperEdges.{edge-parts, proper-traces}
 use Rattle.drawing.specs.laws.Unique.{total-small}
 use Rattle.arcs.specs.Words.{u32-most}
 use Rattle.arcs.specs.laws.PackedEdges.{front-packs}
 use Rattle.arcs.specs.Lengths.{weight-at, distance, counted-at, lengths, lengths-of}
-
--- the arc of an edge has its ends
-pub ends : (kind weight u v : ℕ) → (edge-arc-between kind weight u v .tail ≡ u) × (edge-arc-between kind weight u v .head ≡ v)
-ends zero weight u v = (refl, refl)
-ends (suc kind) weight u v = (refl, refl)
 
 -- what a packed edge counts is the edge's length times its weight, where a straight edge is straight
 edge-counted : (p : List ℕ) (e : Edge) (es : List Edge) → e .weight ≤ max-weight → T (edge-aligned p e)

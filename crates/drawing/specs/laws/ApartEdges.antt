@@ -10,12 +10,12 @@ use lib.Dec.{T, leb, le→leb, eqb, eqb→eq}
 use lib.ListN.{getD, drop}
 use Rattle.sheet.specs.Layout.{layers-at, first-layer-at, edge-count-at, edges-at, edge-stride, behind-layers}
 use Rattle.network.specs.Sums.{all, sumℕ}
-use Rattle.network.specs.laws.Tests.{and-left, and-right, and-both, all-map}
+use Rattle.network.specs.laws.Tests.{chosen, and-left, and-right, and-both, all-map}
 use Rattle.network.specs.laws.Sums.{sumℕ-ext}
 use Rattle.drawing.specs.Sheet.{Edge, Sheet, first-nodes, edges-of, sheet-of}
 use Rattle.drawing.specs.Traces.{any-parallel, greatest-parallel, whole-trace, bare, traces-behind, traces}
 use Rattle.drawing.specs.Drawing.{edge-length, weighted-length, total-length}
-use Rattle.drawing.specs.laws.Traces.{chosen, greatest-le}
+use Rattle.drawing.specs.laws.Traces.{greatest-le}
 use Rattle.drawing.specs.laws.Carriers.{At, SameEnds, NoneOf, Greatest, Carried, ends-back, ends-own, at-one, itself, carried-unique}
 use Rattle.drawing.specs.laws.Carriers.At.{here, later}
 use Rattle.drawing.specs.laws.CarriedTraces.{none-parallel, parallel-none, traces-are}

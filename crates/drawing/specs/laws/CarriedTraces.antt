@@ -1,4 +1,5 @@
--- The traces of edges are what they carry: an edge is the first with its ends exactly where none of those passed has them.
+-- The traces of edges are what they carry: an edge is the first with its ends exactly where none of those passed has them. So what
+-- all edges carry is tested by its two cases.
 use Prim.Native.Nat.{ℕ, zero, suc, max, _≤_, _<_}
 use mathlib.Core.Path.{_≡_, refl}
 use mathlib.Core.Bool.{Bool, not, _||_}
@@ -7,12 +8,13 @@ use mathlib.Core.List.{List, [], _∷_}
 use native.Mathlib.Decide.{ℕ-discrete}
 use native.Mathlib.Omega.{arith}
 use lib.Dec.{T}
-use Rattle.network.specs.laws.Tests.{or-left, or-right, either, fails, not-both}
+use Rattle.network.specs.Sums.{all}
+use Rattle.network.specs.laws.Tests.{or-left, or-right, either, fails, not-both, chosen}
 use Rattle.drawing.specs.Sheet.{Edge}
 use Rattle.drawing.specs.Traces.{parallel, any-parallel, greatest-parallel, whole-trace, bare, traces-behind, traces}
-use Rattle.drawing.specs.laws.Traces.{chosen, parallel-ends, ends-parallel, traces-length}
-use Rattle.drawing.specs.laws.Carriers.{At, SameEnds, NoneOf, FirstOf, Among, Greatest, AllCarried}
-use Rattle.drawing.specs.laws.Carriers.{ends-back, ends-own, itself, further, first-start, first-next}
+use Rattle.drawing.specs.laws.Traces.{parallel-ends, ends-parallel, traces-length}
+use Rattle.drawing.specs.laws.Carriers.{At, SameEnds, NoneOf, FirstOf, Among, Greatest, Carries, CarriesNothing, AllCarried}
+use Rattle.drawing.specs.laws.Carriers.{ends-back, ends-own, itself, further, first-start, first-next, first-known, at-length, all-at}
 use Rattle.drawing.specs.laws.Carriers.At.{here, later}
 
 -- edges with the same ends are parallel
@@ -128,3 +130,16 @@ traces-are es = record {
             (record { ends = record { upper = refl; lower = refl }; kind = refl; weight = refl });
       };
 }
+
+-- a test passes of what all edges carry where it passes of what carries a trace, and of what carries nothing
+pub traces-all : (t : Edge → Bool) (es : List Edge) → ((i : ℕ) (e x : Edge) → At es i e → Carries es e x → T (t x))
+    → ((i : ℕ) (e x : Edge) → At es i e → CarriesNothing e x → T (t x)) → T (all t (traces es))
+traces-all t es f g =
+    all-at t (traces es)
+    (λ i x b.
+    let e = at-length es (traces-length es) b in
+    let carried = traces-are es .each i (e .0) x (e .1) b in
+    elim (first-known (e .1)) [
+      | yes first ↦ f i (e .0) x (e .1) (carried .first first)
+      | no other ↦ g i (e .0) x (e .1) (carried .other other)
+    ])

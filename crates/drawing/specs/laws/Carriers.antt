@@ -2,10 +2,14 @@
 -- among them, so one list only is what edges carry.
 use Prim.Native.Nat.{ℕ, zero, suc, _≤_, _<_}
 use mathlib.Core.Path.{_≡_, refl, sym, _∙_, ap₂}
+use mathlib.Core.Bool.{Bool}
 use mathlib.Core.List.{List, [], _∷_}
 use native.Mathlib.Decide.{ℕ-discrete}
 use native.Mathlib.Omega.{arith}
+use lib.Dec.{T}
 use lib.ListN.{length}
+use Rattle.network.specs.Sums.{all}
+use Rattle.network.specs.laws.Tests.{and-both, Listed, listed-here, listed-later}
 use Rattle.drawing.specs.Sheet.{Edge}
 
 -- an edge stands at an index of a list
@@ -80,7 +84,7 @@ pub ends-back : {a b : Edge} → SameEnds a b → SameEnds b a
 ends-back s = record { upper = sym (s .upper); lower = sym (s .lower) }
 
 -- the same ends as an edge with the same ends
-ends-on : {a b c : Edge} → SameEnds a b → SameEnds b c → SameEnds a c
+pub ends-on : {a b c : Edge} → SameEnds a b → SameEnds b c → SameEnds a c
 ends-on s t = record { upper = s .upper ∙ t .upper; lower = s .lower ∙ t .lower }
 
 -- an edge's own ends
@@ -101,6 +105,16 @@ ends-known a b = elim (ℕ-discrete (a .upper) (b .upper)) [
 pub at-one : {es : List Edge} {i : ℕ} {a b : Edge} → At es i a → At es i b → a ≡ b
 at-one here here = refl
 at-one (later a) (later b) = at-one a b
+
+-- an edge that stands at an index is an element
+pub at-listed : {es : List Edge} {i : ℕ} {e : Edge} → At es i e → Listed e es
+at-listed (here {e = e} {es = es}) = listed-here e es
+at-listed (later {x = x} {es = es} a) = listed-later x es (at-listed a)
+
+-- a test that passes at each index passes of all edges
+pub all-at : (t : Edge → Bool) (es : List Edge) → ((i : ℕ) (e : Edge) → At es i e → T (t e)) → T (all t es)
+all-at t [] f = tt
+all-at t (e ∷ es) f = and-both (t e) (all t es) (f 0 e here) (all-at t es (λ i x a. f (suc i) x (later a)))
 
 -- an edge is among those with its ends
 abbrev pub itself : {es : List Edge} {i : ℕ} {e : Edge} (P : ℕ → Edge → Type 0) → At es i e → P i e → Among es e P
@@ -148,7 +162,7 @@ carrier-unique a b =
     omega arith
 
 -- an edge is the first with its ends, or it is not
-first-known : {es : List Edge} {i : ℕ} {e : Edge} → At es i e → Dec (FirstOf es i e)
+pub first-known : {es : List Edge} {i : ℕ} {e : Edge} → At es i e → Dec (FirstOf es i e)
 first-known {es} {i} {e} a =
     let c = one-carrier a in
     elim (ℕ-discrete (c .index) i) [

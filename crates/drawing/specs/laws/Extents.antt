@@ -1,6 +1,6 @@
 -- The least and the greatest of a list of integers bound all of them, and what holds of all of them holds of these two.
 use mathlib.Core.List.{List, [], _∷_}
-use mathlib.Core.Bool.{Bool, true, false, not, cond}
+use mathlib.Core.Bool.{not}
 use Prim.Native.Nat.{ℕ, zero, suc, _<_}
 use native.Mathlib.Nat.{le-of-suc-le-suc, not-suc-le-zero}
 use native.Mathlib.Omega.{arith}
@@ -8,6 +8,7 @@ use lib.Dec.{T, nleb→lt, le→leb}
 use lib.ListN.{length}
 use lib.IntN.{ℤ, pos, negsuc}
 use lib.Signed.{_≤ℤ_, leZ, leZ-yes, ≤ℤ-refl}
+use Rattle.network.specs.laws.Tests.{chosen}
 use Rattle.network.specs.laws.Integers.{≤ℤ-trans}
 use Rattle.network.specs.Network.{potential}
 use Rattle.drawing.specs.Assignment.{lesser, greater, least-of, greatest-of}
@@ -20,26 +21,21 @@ not-le (negsuc a) (pos b) t = absurd t
 not-le (negsuc a) (negsuc b) t = le→leb a b (omega (arith, nleb→lt b a t))
 
 module _ (a b : ℤ) where
-  -- what holds of both holds of the chosen one
-  chosen : (P : ℤ → Type 0) (c : Bool) (x z : ℤ) → P x → P z → P (cond c x z)
-  chosen P true x z p q = p
-  chosen P false x z p q = q
-
   -- the lesser of two is at most the first
   lesser-left : lesser a b ≤ℤ a
-  lesser-left = elim (leZ a b) as (λ c. (T (not c) → T (leZ b a)) → cond c a b ≤ℤ a) [ true ↦ λ f. ≤ℤ-refl a | false ↦ λ f. leZ-yes (f tt) ] (not-le a b)
+  lesser-left = chosen (λ z. z ≤ℤ a) (leZ a b) a b (λ t. ≤ℤ-refl a) (λ n. leZ-yes (not-le a b n))
 
   -- and at most the second
   lesser-right : lesser a b ≤ℤ b
-  lesser-right = elim (leZ a b) as (λ c. (T c → T (leZ a b)) → cond c a b ≤ℤ b) [ true ↦ λ f. leZ-yes (f tt) | false ↦ λ f. ≤ℤ-refl b ] (λ t. t)
+  lesser-right = chosen (λ z. z ≤ℤ b) (leZ a b) a b (λ t. leZ-yes t) (λ n. ≤ℤ-refl b)
 
   -- the greater of two is at least the first
   greater-left : a ≤ℤ greater a b
-  greater-left = elim (leZ a b) as (λ c. (T c → T (leZ a b)) → a ≤ℤ cond c b a) [ true ↦ λ f. leZ-yes (f tt) | false ↦ λ f. ≤ℤ-refl a ] (λ t. t)
+  greater-left = chosen (λ z. a ≤ℤ z) (leZ a b) b a (λ t. leZ-yes t) (λ n. ≤ℤ-refl a)
 
   -- and at least the second
   greater-right : b ≤ℤ greater a b
-  greater-right = elim (leZ a b) as (λ c. (T (not c) → T (leZ b a)) → b ≤ℤ cond c b a) [ true ↦ λ f. ≤ℤ-refl b | false ↦ λ f. leZ-yes (f tt) ] (not-le a b)
+  greater-right = chosen (λ z. b ≤ℤ z) (leZ a b) b a (λ t. ≤ℤ-refl b) (λ n. leZ-yes (not-le a b n))
 
 -- the least of a list is at most each of its numbers
 pub least-le : (x : List ℤ) (v : ℕ) → v < length x → least-of x ≤ℤ potential x v
@@ -63,11 +59,14 @@ module _ (P : ℤ → Type 0) (none : P (pos 0)) where
   pub least-is : (x : List ℤ) → ((v : ℕ) → P (potential x v)) → P (least-of x)
   least-is [] f = none
   least-is (a ∷ []) f = f 0
-  least-is (a ∷ b ∷ x) f = chosen a b P (leZ a (least-of (b ∷ x))) a (least-of (b ∷ x)) (f 0) (least-is (b ∷ x) (λ v. f (suc v)))
+  least-is (a ∷ b ∷ x) f =
+      let rest : ℤ = least-of (b ∷ x) in
+      chosen P (leZ a rest) a rest (λ t. f 0) (λ n. least-is (b ∷ x) (λ v. f (suc v)))
 
   -- and of the greatest
   pub greatest-is : (x : List ℤ) → ((v : ℕ) → P (potential x v)) → P (greatest-of x)
   greatest-is [] f = none
   greatest-is (a ∷ []) f = f 0
   greatest-is (a ∷ b ∷ x) f =
-      chosen a b P (leZ a (greatest-of (b ∷ x))) (greatest-of (b ∷ x)) a (greatest-is (b ∷ x) (λ v. f (suc v))) (f 0)
+      let rest : ℤ = greatest-of (b ∷ x) in
+      chosen P (leZ a rest) rest a (λ t. greatest-is (b ∷ x) (λ v. f (suc v))) (λ n. f 0)

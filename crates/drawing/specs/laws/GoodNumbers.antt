@@ -62,7 +62,7 @@ last-first-node zero v s = omega arith
 last-first-node (suc k) v s = omega (arith, last-first-node k (v + getD s nodes-at 0) (next-layer s))
 
 -- behind the nodes of layer j stand those of the next one
-next-first : (k v : ℕ) (s : List ℕ) (j : ℕ) → j < k
+pub next-first : (k v : ℕ) (s : List ℕ) (j : ℕ) → j < k
     → getD (first-nodes k v s) j 0 + getD (node-counts k s) j 0 ≡ getD (first-nodes k v s) (suc j) 0
 next-first zero v s j h = absurd (omega arith)
 next-first (suc zero) v s zero h = refl

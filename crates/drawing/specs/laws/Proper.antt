@@ -47,7 +47,7 @@ layers-proper n (suc k) v s g =
     (layers-proper n k (v + c) (next-layer s) (g .1))
 
 -- good edges are proper
-edges-proper : (n : ℕ) (first : List ℕ) (m : ℕ) (s : List ℕ) → GoodEdges n first m s
+pub edges-proper : (n : ℕ) (first : List ℕ) (m : ℕ) (s : List ℕ) → GoodEdges n first m s
     → T (all (proper-edge n) (edges-of first m s))
 edges-proper n first zero s g = tt
 edges-proper n first (suc m) s g =

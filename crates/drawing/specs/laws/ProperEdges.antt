@@ -4,12 +4,13 @@ use mathlib.Core.Bool.{Bool, _&&_}
 use lib.Dec.{T, ltb, leb, ltb→lt, lt→ltb, leb→le, le→leb}
 use native.Mathlib.Omega.{arith}
 use Rattle.network.specs.Sums.{all}
-use Rattle.network.specs.laws.Tests.{and-left, and-right, and-both, all-map}
+use Rattle.network.specs.laws.Tests.{and-left, and-right, and-both}
 use Rattle.sheet.specs.Limits.{max-kind, max-weight}
 use Rattle.drawing.specs.Sheet.{Edge, Sheet}
-use Rattle.drawing.specs.Traces.{bare, whole-trace, traces}
+use Rattle.drawing.specs.Traces.{traces}
 use Rattle.drawing.specs.Proper.{proper-edge, Proper}
-use Rattle.drawing.specs.laws.Traces.{greatest-le, traces-all}
+use Rattle.drawing.specs.laws.Carriers.{At, at-listed}
+use Rattle.drawing.specs.laws.CarriedTraces.{traces-all}
 
 -- the parts of the test
 pub record ProperEdge (n : ℕ) (e : Edge) : Type 0 where
@@ -46,23 +47,23 @@ parts-edge n e p =
 pub proper-traces : (S : Sheet) → Proper S → T (all (proper-edge (S .nodes)) (traces (S .edges)))
 proper-traces S proper =
     let n : ℕ = S .nodes in
-    let kinds : T (all (λ x. leb (x .kind) max-kind) (S .edges)) =
-    all-map (proper-edge n) (λ x. leb (x .kind) max-kind) (λ e t. le→leb (e .kind) max-kind (edge-parts n e t .kind)) (S .edges)
-    (proper .ends) in
-    let weights : T (all (λ x. leb (x .weight) max-weight) (S .edges)) =
-    all-map (proper-edge n) (λ x. leb (x .weight) max-weight) (λ e t. le→leb (e .weight) max-weight (edge-parts n e t .weight)) (S .edges)
-    (proper .ends) in
-    traces-all (proper-edge n) (proper-edge n) (S .edges)
-    (λ e t. parts-edge n (whole-trace (S .edges) e) (record {
-      upper = edge-parts n e t .upper;
-      lower = edge-parts n e t .lower;
-      kind = greatest-le (λ x. x .kind) max-kind e (S .edges) kinds;
-      weight = greatest-le (λ x. x .weight) max-weight e (S .edges) weights;
+    traces-all (proper-edge n) (S .edges)
+    (λ i e x a carries.
+    let kind = carries .kind .attained in
+    let weight = carries .weight .attained in
+    parts-edge n x (record {
+      upper = omega (arith, carries .ends .upper, own a .upper);
+      lower = omega (arith, carries .ends .lower, own a .lower);
+      kind = omega (arith, kind .holds, own (kind .at) .kind);
+      weight = omega (arith, weight .holds, own (weight .at) .weight);
     }))
-    (λ e t. parts-edge n (bare e) (record {
-      upper = edge-parts n e t .upper;
-      lower = edge-parts n e t .lower;
-      kind = omega arith;
-      weight = omega arith;
+    (λ i e x a nothing. parts-edge n x (record {
+      upper = omega (arith, nothing .ends .upper, own a .upper);
+      lower = omega (arith, nothing .ends .lower, own a .lower);
+      kind = omega (arith, nothing .kind);
+      weight = omega (arith, nothing .weight);
     }))
-    (proper .ends)
+  where
+    -- an edge of the sheet is within its limits
+    own : {i : ℕ} {e : Edge} → At (S .edges) i e → ProperEdge (S .nodes) e
+    own {e = e} a = edge-parts (S .nodes) e (at-listed a .passes (proper-edge (S .nodes)) (proper .ends))

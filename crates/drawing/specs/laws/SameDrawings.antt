@@ -23,7 +23,7 @@ use Rattle.drawing.specs.Drawing.{LeastDrawing, LeftmostDrawing}
 use Rattle.drawing.specs.Arcs.{edge-arc, layer-arcs, network}
 use Rattle.network.specs.laws.Integers.{+ℤ-none}
 use Rattle.network.specs.laws.Models.{Models, models-least, models-leftmost}
-use Rattle.drawing.specs.laws.Traces.{aligned-traces}
+use Rattle.drawing.specs.laws.AlignedTraces.{aligned-traces}
 use Rattle.drawing.specs.laws.ArcTests.{edge-is, layer-is, edge-cost, layer-cost}
 
 -- a layer's pairs have their separations, and its last node is within the width

@@ -1,7 +1,7 @@
 -- Tests as facts: of two tests, of the numbers below one, and of the elements of a list.
 use Prim.Native.Nat.{ℕ, zero, suc, _<_}
 use mathlib.Core.Path.{_≡_, refl, sym, _∙_, ap, ap₂, subst, fun-ext}
-use mathlib.Core.Bool.{Bool, true, false, not, _&&_, _||_, and-assoc}
+use mathlib.Core.Bool.{Bool, true, false, not, cond, _&&_, _||_, and-assoc}
 use mathlib.Core.Logic.{_⊎_, inl, inr}
 use mathlib.Core.List.{List, [], _∷_, _++_, map, flatMap}
 use native.Mathlib.Decide.{ℕ-discrete}
@@ -71,6 +71,11 @@ test-ext false false f g = refl
 pub not-not : (b : Bool) → (T (not b) → ⊥) → T b
 not-not true f = tt
 not-not false f = f tt
+
+-- what holds of a choice, by its two cases
+pub chosen : {A : Type 0} (P : A → Type 0) (b : Bool) (x y : A) → (T b → P x) → (T (not b) → P y) → P (cond b x y)
+chosen P true x y f g = f tt
+chosen P false x y f g = g tt
 
 -- a test that passes below n, at a number there
 pub below-at : (n : ℕ) (t : ℕ → Bool) → T (below n t) → (v : ℕ) → v < n → T (t v)
