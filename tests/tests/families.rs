@@ -39,10 +39,9 @@ fn full_sheets_have_all_nodes_and_edges() {
     }
 }
 
-/// How many different pairs of ends the edges of a sheet have.
-fn different_ends(sheet: &Sheet) -> usize {
-    let ends: HashSet<(usize, usize)> = sheet.edges.iter().map(Edge::ends).collect();
-    ends.len()
+/// The different pairs of ends that the edges of a sheet have.
+fn different_ends(sheet: &Sheet) -> HashSet<(usize, usize)> {
+    sheet.edges.iter().map(Edge::ends).collect()
 }
 
 #[test]
@@ -50,7 +49,7 @@ fn parallel_edges_are_parallel() {
     let mut random = Random::new(52);
     for _ in 0..200 {
         let sheet = good(&sizes::parallel(&mut random));
-        assert!(sheet.edges.len() >= 30 && different_ends(&sheet) < sheet.edges.len());
+        assert!(sheet.edges.len() >= 30 && different_ends(&sheet).len() < sheet.edges.len());
         let sheet = good(&parallel::far_apart(&mut random));
         let (first, last) = (&sheet.edges[0], &sheet.edges[sheet.edges.len() * 3 / 4..]);
         assert!(last.iter().any(|edge| edge.ends() == first.ends()));
@@ -60,7 +59,12 @@ fn parallel_edges_are_parallel() {
 #[test]
 fn longest_edges_are_512_and_parallel_or_not() {
     let (parallel, others) = (sizes::longest_parallel(), sizes::longest_edges());
-    let counts = |draft: &Draft| (good(draft).edges.len(), different_ends(&draft.sheet()));
+    let counts = |draft: &Draft| {
+        (
+            good(draft).edges.len(),
+            different_ends(&draft.sheet()).len(),
+        )
+    };
     assert_eq!(counts(&parallel), (512, 1));
     assert_eq!(counts(&others), (512, 512));
     assert_eq!(others.sheet().node_count(), 256);
@@ -84,7 +88,7 @@ fn layers_of_64_have_nodes_64_apart_and_straight_edges_at_every_place() {
     for _ in 0..50 {
         let sheet = good(&parallel::layers_of_64(&mut random));
         assert_eq!((sheet.node_count(), sheet.edges.len()), (256, 512));
-        let ends: HashSet<(usize, usize)> = sheet.edges.iter().map(Edge::ends).collect();
+        let ends = different_ends(&sheet);
         let apart = |&(upper, lower): &(usize, usize)| ends.contains(&(upper + 64, lower + 64));
         assert!(ends.iter().any(apart));
         for (&(upper, lower), trace) in &traces(&sheet) {
