@@ -45,6 +45,12 @@ unfolding sum-to
 sum-to-eq zero f g b = refl
 sum-to-eq (suc n) f g b = omega (arith, b n (le-refl _), sum-to-eq n f g (λ u u-in. b u (omega arith)))
 
+-- the first term, and the others
+pub sum-to-first : (n : ℕ) (f : ℕ → ℕ) → sum-to (suc n) f ≡ f 0 + sum-to n (λ i. f (suc i))
+unfolding sum-to
+sum-to-first zero f = refl
+sum-to-first (suc n) f = omega (arith, sum-to-first n f)
+
 -- a sum-to after a change at one place
 pub sum-to-change : (n : ℕ) (f g : ℕ → ℕ) (u : ℕ) → u < n → ((w : ℕ) → w < n → (w ≡ u → ⊥) → f w ≡ g w)
     → sum-to n f + g u ≡ sum-to n g + f u
@@ -70,6 +76,17 @@ pub sum-to-zero : (n : ℕ) → sum-to n (λ u. 0) ≡ 0
 unfolding sum-to
 sum-to-zero zero = refl
 sum-to-zero (suc n) = omega (arith, sum-to-zero n)
+
+-- no more than the first n terms, where those behind them are 0
+pub sum-to-rest : (n m : ℕ) (f : ℕ → ℕ) → n ≤ m → ((u : ℕ) → n ≤ u → u < m → f u ≡ 0) → sum-to m f ≡ sum-to n f
+unfolding sum-to
+sum-to-rest n zero f h none = let e : 0 ≡ n = omega arith in ap (λ (k : ℕ). sum-to k f) e
+sum-to-rest n (suc m) f h none =
+    ⊎-elim
+    (λ (e : n ≡ suc m). ap (λ (k : ℕ). sum-to k f) (sym e))
+    (λ (l : n < suc m).
+    omega (arith, none m (omega arith) (le-refl _), sum-to-rest n m f (omega arith) (λ u a b. none u a (omega arith))))
+    (eq-or-lt-of-le h)
 
 -- the sum of two sums
 pub sum-to-add : (n : ℕ) (f g : ℕ → ℕ) → sum-to n (λ u. f u + g u) ≡ sum-to n f + sum-to n g
