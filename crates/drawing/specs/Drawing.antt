@@ -1,8 +1,8 @@
 -- Document 01, "Drawing and total".
 use Prim.Native.Nat.{ℕ, zero, suc, _+_, _-_, _*_}
 use mathlib.Core.Path.{_≡_}
-use mathlib.Core.Bool.{Bool, true, _&&_}
-use mathlib.Core.List.{List}
+use mathlib.Core.Bool.{Bool, true, cond, _&&_}
+use mathlib.Core.List.{List, map}
 use lib.Dec.{T, leb, eqb}
 use lib.ListN.{length, getD}
 use Rattle.network.specs.Sums.{all, sumℕ}
@@ -62,6 +62,15 @@ weighted-length p e = e .weight * edge-length p e
 -- the total: the sum over all traces
 unfoldable pub total-length : Sheet → List ℕ → ℕ
 total-length S p = sumℕ (weighted-length p) (traces (S .edges))
+
+-- document 02, ticket 5: the sum over the traces whose lower end is node v or one behind it; where v is a layer's first node, its lower
+-- end is in that layer or below
+unfoldable pub total-from : ℕ → Sheet → List ℕ → ℕ
+total-from v S p = sumℕ (λ e. cond (leb v (e .lower)) (weighted-length p e) 0) (traces (S .edges))
+
+-- the sums from each layer (rank) on, the first layer's in front
+abbrev pub running-sums : Sheet → List ℕ → List ℕ
+running-sums S p = map (λ l. total-from (l .first) S p) (S .layers)
 
 -- demand 3: every other drawing of that sheet has at least as large a total
 abbrev pub LeastDrawing : Sheet → List ℕ → Type 0

@@ -22,6 +22,8 @@ pub mod Shift
 pub mod LeastAssignment
 pub mod LeftmostTest
 pub mod Unique
+pub mod RunningSums
+pub mod RunningSumExamples
 pub mod Widths
 pub mod CoordinateFile
 pub mod Rows
