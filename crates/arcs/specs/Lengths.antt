@@ -1,9 +1,10 @@
 -- The ends and weights of packed edges, and their lengths (runs) times their weights, added.
-use Prim.Native.Nat.{ℕ, zero, suc, _+_, _-_, _*_, _/_}
-use mathlib.Core.Bool.{cond}
+use Prim.Native.Nat.{ℕ, _+_, _-_, _*_, _/_}
+use mathlib.Core.Bool.{Bool, cond, _&&_}
 use mathlib.Core.List.{List, []}
-use lib.Dec.{eqb, ltb}
+use lib.Dec.{eqb, leb, ltb}
 use lib.ListN.{length, getD, drop}
+use Rattle.network.specs.Sums.{sum-to}
 use Rattle.network.specs.Packed.{tail-at, head-at, high-at, stride, flow-zero, high-none}
 use Rattle.drawing.specs.Drawing.{coordinate}
 
@@ -39,11 +40,18 @@ length-at p s = distance (coordinate p (upper-at s)) (coordinate p (lower-at s))
 abbrev pub counted-at : List ℕ → List ℕ → ℕ
 counted-at p s = weight-at s * length-at p s
 
--- what the first n packed edges of s count, added
-abbrev pub lengths : ℕ → List ℕ → List ℕ → ℕ
-lengths zero p s = 0
-lengths (suc n) p s = counted-at p s + lengths n p (drop stride s)
-
--- the same of all packed edges of s; numbers behind the last whole one are not looked at
+-- what all packed edges of s count, added; numbers behind the last whole one are not looked at
 abbrev pub lengths-of : List ℕ → List ℕ → ℕ
-lengths-of p s = lengths (length s / stride) p s
+lengths-of p s = sum-to (length s / stride) (λ i. counted-at p (edge-from i s))
+
+-- the same of those whose lower end passes a test
+abbrev pub lengths-where : (ℕ → Bool) → List ℕ → List ℕ → ℕ
+lengths-where test p s = sum-to (length s / stride) (λ i. cond (test (lower-at (edge-from i s))) (counted-at p (edge-from i s)) 0)
+
+-- of those whose lower end is node v or one behind it
+abbrev pub lengths-from : ℕ → List ℕ → List ℕ → ℕ
+lengths-from v = lengths-where (leb v)
+
+-- of those whose lower end is node v or one behind it, and before node w
+abbrev pub lengths-between : ℕ → ℕ → List ℕ → List ℕ → ℕ
+lengths-between v w = lengths-where (λ x. leb v x && ltb x w)

@@ -1,7 +1,7 @@
--- What loading a sheet answers, and what it leaves in the lent slice.
-use Prim.Native.Nat.{ℕ, _*_}
-use mathlib.Core.Bool.{cond}
-use mathlib.Core.List.{List, _++_}
+-- What loading a sheet answers, and what it leaves in the two lent slices.
+use Prim.Native.Nat.{ℕ, _+_, _*_}
+use mathlib.Core.Bool.{Bool, cond, _||_}
+use mathlib.Core.List.{List, [], _∷_, _++_, map}
 use lib.Dec.{ltb}
 use lib.ListN.{length, drop}
 use Rattle.leb128.specs.Refusals.{slice-short}
@@ -10,7 +10,7 @@ use Rattle.leb128.specs.Format.{Result}
 use Rattle.leb128.specs.Format.Result.{elements}
 use Rattle.leb128.specs.Reply.{Reply}
 use Rattle.network.specs.Packed.{stride, packed}
-use Rattle.drawing.specs.Sheet.{sheet-of}
+use Rattle.drawing.specs.Sheet.{Layer, sheet-of}
 use Rattle.drawing.specs.Arcs.{network}
 use Rattle.drawing.specs.Sheet as drawing
 use Rattle.arcs.specs.declared.Counts.{Counts}
@@ -22,26 +22,45 @@ unfoldable pub loading : Loaded → Reply Counts
 loading (Sheet c) = Reply.value c
 loading (Refused r) = Reply.refused r
 
+-- the first node of each layer of a sheet, and last the count of nodes
+abbrev pub layer-firsts : drawing.Sheet → List ℕ
+layer-firsts S = map (λ (l : Layer). l .first) (S .layers) ++ S .nodes ∷ []
+
+-- how many elements they take
+abbrev pub firsts-size : drawing.Sheet → ℕ
+firsts-size S = length (S .layers) + 1
+
 -- how many elements the packed arcs of a sheet take
 abbrev pub arcs-size : drawing.Sheet → ℕ
 arcs-size S = stride * length (network S .arcs)
 
 -- the counts of a sheet
 abbrev pub counts-of : drawing.Sheet → Counts
-counts-of S = record { nodes = S .nodes; edges = length (S .edges); arcs = length (network S .arcs) }
+counts-of S =
+    record { layers = length (S .layers); nodes = S .nodes; edges = length (S .edges); arcs = length (network S .arcs) }
 
--- refusal 7: the lent slice, of room elements, is too short for the sheet's arcs
-unfoldable pub fitted : drawing.Sheet → ℕ → Reply Counts
-fitted S room = cond (ltb room (arcs-size S)) (Reply.refused (refusal slice-short 0)) (Reply.value (counts-of S))
+-- one of two slices, of so many elements, is too short: for a sheet's first nodes, or for its packed arcs
+abbrev pub too-short : drawing.Sheet → ℕ → ℕ → Bool
+too-short S firsts arcs = ltb firsts (firsts-size S) || ltb arcs (arcs-size S)
 
--- the answer, by what reading gives: its refusals come first
-unfoldable pub load-answer : ℕ → Result → Reply Counts
-load-answer room (elements numbers) = fitted (sheet-of numbers) room
-load-answer room (Result.refused r) = Reply.refused r
+-- the sheet that is loaded into two slices, by what reading gives, or the refusal: those of reading come first, then 7
+unfoldable pub fitted : List ℕ → List ℕ → Result → Reply drawing.Sheet
+fitted first arcs (elements numbers) =
+    cond (too-short (sheet-of numbers) (length first) (length arcs)) (Reply.refused (refusal slice-short 0))
+    (Reply.value (sheet-of numbers))
+fitted first arcs (Result.refused r) = Reply.refused r
 
--- the lent slice afterwards: the packed arcs, then the old elements behind them; on a refusal all is old
-unfoldable pub load-slice : Result → List ℕ → List ℕ
-load-slice (elements numbers) old =
-    cond (ltb (length old) (arcs-size (sheet-of numbers))) old
-    (packed (network (sheet-of numbers)) ++ drop (arcs-size (sheet-of numbers)) old)
-load-slice (Result.refused r) old = old
+-- the answer: the sheet's counts, or the refusal
+unfoldable pub load-answer : Reply drawing.Sheet → Reply Counts
+load-answer (Reply.value S) = Reply.value (counts-of S)
+load-answer (Reply.refused r) = Reply.refused r
+
+-- the slice lent for the first nodes, afterwards: they stand in front of the old elements; on a refusal all is old
+unfoldable pub load-firsts : Reply drawing.Sheet → List ℕ → List ℕ
+load-firsts (Reply.value S) old = layer-firsts S ++ drop (firsts-size S) old
+load-firsts (Reply.refused r) old = old
+
+-- the slice lent for the packed arcs, afterwards, in the same way
+unfoldable pub load-arcs : Reply drawing.Sheet → List ℕ → List ℕ
+load-arcs (Reply.value S) old = packed (network S) ++ drop (arcs-size S) old
+load-arcs (Reply.refused r) old = old

@@ -1,3 +1,4 @@
 pub mod Pieces
 pub mod Traces
 pub mod Plans
+pub mod Chains

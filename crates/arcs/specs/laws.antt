@@ -1,6 +1,9 @@
+pub mod LayerFirsts
 pub mod Fitting
 pub mod Loaded
 pub mod PackedEdges
+pub mod LowerEnds
 pub mod HeldArcs
 pub mod SheetLengths
+pub mod HeldSums
 pub mod Widened

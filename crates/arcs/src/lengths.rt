@@ -1,4 +1,4 @@
-// The ends and weights of packed edges, the coordinates of nodes, and the lengths of edges, added.
+// The ends and weights of packed edges, the coordinates of nodes, and what an edge counts.
 use crate::numbers::wide;
 use network::layout::FLOW_ZERO;
 use network::layout::HEAD;
@@ -7,17 +7,13 @@ use network::layout::HIGH_NONE;
 use network::layout::STRIDE;
 use network::layout::TAIL;
 ghost use mathlib.Core.Path.{_≡_};
-ghost use Prim.Native.Nat.{_+_, _*_, _≤_, _<_, min};
-ghost use lib.ListN.{length, getD};
+ghost use Prim.Native.Nat.{_<_};
+ghost use lib.ListN.{getD};
 ghost use Rattle.network.specs.Packed.{stride};
 ghost use Rattle.drawing.specs.Drawing.{coordinate};
 ghost use Rattle.leb128.specs.Limits.{«list-limit»};
-ghost use Rattle.arcs.specs.Words.{Small, «u32-most»};
-ghost use Rattle.arcs.specs.Lengths.{«edge-from», «upper-at», «lower-at», «weight-of», «weight-at»};
-ghost use Rattle.arcs.specs.Lengths.{distance, «counted-at», «lengths-of»};
-
-// The greatest number of 32 bits.
-const MOST: usize = 4294967295;
+ghost use Rattle.arcs.specs.Words.{Small};
+ghost use Rattle.arcs.specs.Lengths.{«edge-from», «upper-at», «lower-at», «weight-of», «weight-at», distance, «counted-at»};
 
 // The upper end of packed edge i; where there is no such edge, 0.
 pub fn edge_upper(arcs: &[u32], i: usize) -> u32
@@ -50,21 +46,6 @@ pub fn place(places: &[u16], v: usize) -> usize
     0
 }
 
-// The total of packed edges: their lengths (runs) times their weights, added; it stays at the greatest number of 32 bits.
-pub fn total(arcs: &[u32], places: &[u16]) -> u32
-    ensures { λ r. ⌜ r ≡ min u32-most (lengths-of (now (places .entry)) (now (arcs .entry))) ⌝ }
-{
-    let mut sum = 0;
-    let mut i = 0;
-    let mut left = arcs.len() / STRIDE;
-    while left > 0 {
-        sum = capped(sum, counted(arcs, places, i));
-        i += 1;
-        left -= 1;
-    }
-    sum as u32
-}
-
 // A number of packed edge i; where there is no such edge, 0.
 fn field(arcs: &[u32], i: usize, at: usize) -> u32
     requires { ⌜ at < stride ⌝ }
@@ -90,7 +71,7 @@ fn weight(high: u32) -> u32
 }
 
 // What packed edge i counts at these places: its length times its weight.
-fn counted(arcs: &[u32], places: &[u16], i: usize) -> usize
+pub fn counted(arcs: &[u32], places: &[u16], i: usize) -> usize
     ensures { λ r. ⌜ r ≡ counted-at (now (places .entry)) (edge-from i (now (arcs .entry))) ⌝ }
 {
     let upper = place(places, edge_upper(arcs, i) as usize);
@@ -108,15 +89,4 @@ fn distance(a: usize, b: usize) -> usize
         return b - a;
     }
     a - b
-}
-
-// A sum that stays at the greatest number of 32 bits.
-fn capped(sum: usize, x: usize) -> usize
-    requires { ⌜ sum ≤ u32-most ⌝ }
-    ensures { λ r. ⌜ r ≡ min u32-most (sum + x) ⌝ }
-{
-    if MOST - sum < x {
-        return MOST;
-    }
-    sum + x
 }

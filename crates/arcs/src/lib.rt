@@ -1,5 +1,6 @@
-// The arcs of a sheet's network, loaded into a lent slice in the packed layout, at any width; the ends and weights of
-// packed edges, and their total.
+// The first nodes of a sheet's layers and the arcs of its network, loaded into lent slices, the arcs in the packed layout, at any
+// width; the ends and weights of packed edges, and their total.
+mod chains;
 mod edges;
 mod fill;
 mod layers;
@@ -8,11 +9,15 @@ pub mod limits;
 mod numbers;
 mod pack;
 mod planning;
+mod starts;
+mod sums;
 mod traces;
 mod widths;
 
 use crate::fill::fill;
+use crate::limits::MAX_FIRSTS;
 use crate::planning::plan;
+use crate::planning::put_firsts;
 use leb128::Answer;
 use leb128::Refusal;
 use leb128::refusals::SLICE_SHORT;
@@ -20,21 +25,23 @@ pub use lengths::edge_lower;
 pub use lengths::edge_upper;
 pub use lengths::edge_weight;
 pub use lengths::place;
-pub use lengths::total;
 use network::layout::STRIDE;
-use sheet::limits::MAX_LAYERS;
 use sheet::limits::MAX_NUMBERS;
+pub use sums::total;
 pub use widths::set_width;
 ghost use mathlib.Core.Path.{_≡_};
 ghost use lib.ListN.{length};
+ghost use Rattle.leb128.specs.Source.{refusal};
+ghost use Rattle.leb128.specs.Refusals.{«slice-short»};
 ghost use Rattle.leb128.specs.Format.Result.{elements};
 ghost use Rattle.sheet.specs.Limits.{«max-nodes»};
 ghost use Rattle.sheet.specs.Reading.{«read-sheet»};
 ghost use Rattle.drawing.specs.laws.Good.{Good};
-ghost use Rattle.arcs.specs.Loading.{loading, «load-answer», «load-slice»};
+ghost use Rattle.arcs.specs.Loading.{loading, fitted, «load-answer», «load-firsts», «load-arcs»};
 
 // The counts of a sheet.
 pub struct Counts {
+    pub layers: usize,
     pub nodes: usize,
     pub edges: usize,
     pub arcs: usize,
@@ -46,16 +53,20 @@ pub enum Loaded {
     Refused(Refusal),
 }
 
-// Loads the arcs of a sheet into the front of the lent slice.
-pub fn load(bytes: &[u8], arcs: &mut [u32]) -> Loaded
-    ensures answer { λ r. ⌜ loading r ≡ load-answer (length (now (arcs .entry))) (read-sheet (now (bytes .entry))) ⌝ }
-    ensures slice { λ r. ⌜ now (arcs .exit) ≡ load-slice (read-sheet (now (bytes .entry))) (now (arcs .entry)) ⌝ }
+// Loads a sheet: the first node of each layer and then the count of nodes into the front of one lent slice, the arcs into the front
+// of the other.
+pub fn load(bytes: &[u8], first: &mut [u16], arcs: &mut [u32]) -> Loaded
+    ensures answer { λ r. ⌜ loading r ≡ load-answer (fitted (now (first .entry)) (now (arcs .entry)) (read-sheet (now (bytes .entry)))) ⌝ }
+    ensures first { λ r. ⌜ now (first .exit) ≡ load-firsts
+        (fitted (now (first .entry)) (now (arcs .entry)) (read-sheet (now (bytes .entry)))) (now (first .entry)) ⌝ }
+    ensures arcs { λ r. ⌜ now (arcs .exit) ≡ load-arcs
+        (fitted (now (first .entry)) (now (arcs .entry)) (read-sheet (now (bytes .entry)))) (now (arcs .entry)) ⌝ }
 {
     let mut numbers = [0u16; MAX_NUMBERS];
     let answer = sheet::read(bytes, &mut numbers);
     match answer {
         Answer::Refused(r) => Loaded::Refused(r),
-        Answer::Done(count) => load_numbers(&numbers[0..count], arcs),
+        Answer::Done(count) => load_numbers(&numbers[0..count], first, arcs),
     }
 }
 
@@ -90,25 +101,41 @@ struct Plan {
     edges: usize,
 }
 
-// Loads the arcs of a good sheet's numbers, where the slice has room for them.
-fn load_numbers(numbers: &[u16], arcs: &mut [u32]) -> Loaded
-    requires { ⌜ Good max-nodes (now numbers) ⌝ }
-    ensures answer { λ r. ⌜ loading r ≡ load-answer (length (now (arcs .entry))) (elements (now (numbers .entry))) ⌝ }
-    ensures slice { λ r. ⌜ now (arcs .exit) ≡ load-slice (elements (now (numbers .entry))) (now (arcs .entry)) ⌝ }
+// The refusal of a slice that is too short.
+fn short() -> Loaded
+    ensures { λ r. ⌜ r ≡ Loaded.Refused (refusal slice-short 0) ⌝ }
 {
-    let mut first = [0u16; MAX_LAYERS as usize + 1];
-    let known = plan(numbers, &mut first);
+    Loaded::Refused(Refusal {
+        number: SLICE_SHORT,
+        offset: 0,
+    })
+}
+
+// Loads a good sheet's numbers, where the slices have room for the first nodes and the arcs.
+fn load_numbers(numbers: &[u16], first: &mut [u16], arcs: &mut [u32]) -> Loaded
+    requires { ⌜ Good max-nodes (now numbers) ⌝ }
+    ensures answer { λ r. ⌜ loading r ≡ load-answer (fitted (now (first .entry)) (now (arcs .entry)) (elements (now (numbers .entry)))) ⌝ }
+    ensures first { λ r. ⌜ now (first .exit) ≡ load-firsts
+        (fitted (now (first .entry)) (now (arcs .entry)) (elements (now (numbers .entry)))) (now (first .entry)) ⌝ }
+    ensures arcs { λ r. ⌜ now (arcs .exit) ≡ load-arcs
+        (fitted (now (first .entry)) (now (arcs .entry)) (elements (now (numbers .entry)))) (now (arcs .entry)) ⌝ }
+{
+    let mut found = [0u16; MAX_FIRSTS];
+    let known = plan(numbers, &mut found);
+    let layers = known.layers;
     let nodes = known.nodes;
     let edges = known.edges;
     let count = edges + 2 * nodes;
-    if arcs.len() < STRIDE * count {
-        return Loaded::Refused(Refusal {
-            number: SLICE_SHORT,
-            offset: 0,
-        });
+    if first.len() < layers + 1 {
+        return short();
     }
-    fill(numbers, &first, known, arcs);
+    if arcs.len() < STRIDE * count {
+        return short();
+    }
+    put_firsts(&found[0..layers + 1], first);
+    fill(numbers, &found, known, arcs);
     Loaded::Sheet(Counts {
+        layers: layers,
         nodes: nodes,
         edges: edges,
         arcs: count,

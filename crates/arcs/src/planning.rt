@@ -5,8 +5,10 @@ use crate::numbers::number;
 use crate::numbers::wide;
 use sheet::layout::FIRST_LAYER;
 use sheet::layout::LAYERS;
+ghost use mathlib.Core.Path.{_≡_};
 ghost use Prim.Native.Nat.{_≤_, _<_};
 ghost use lib.ListN.{length, drop};
+ghost use lib.Seq.{sets};
 ghost use Rattle.sheet.specs.Limits.{«max-nodes», «max-layers»};
 ghost use Rattle.sheet.specs.Layout.{«first-layer-at»};
 ghost use Rattle.drawing.specs.laws.Good.{GoodLayers, Good};
@@ -49,5 +51,17 @@ pub fn plan(numbers: &[u16], first: &mut [u16]) -> Plan
         behind: behind,
         nodes: nodes,
         edges: edges,
+    }
+}
+
+// Copies first nodes into the front of a slice.
+pub fn put_firsts(found: &[u16], first: &mut [u16])
+    requires { ⌜ length (now found) ≤ length (now first) ⌝ }
+    ensures { λ _. ⌜ now (first .exit) ≡ sets (now (first .entry)) 0 (now (found .entry)) ⌝ }
+{
+    let mut i = 0;
+    while i < found.len() {
+        first[i] = found[i];
+        i += 1;
     }
 }

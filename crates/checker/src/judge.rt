@@ -1,4 +1,4 @@
-// The decision on packed arcs, places and a list.
+// The decision on packed arcs with the first nodes of the layers, places and a list.
 use crate::arc::wide;
 use crate::rules::all_allowed;
 use crate::rules::all_balanced;
@@ -16,8 +16,8 @@ ghost use Rattle.arcs.specs.laws.HeldArcs.{Holds};
 ghost use Rattle.checker.specs.inside.Table.{«table-decision»};
 
 // Places that are a drawing, a list that meets the rules, and the bound equal to the total.
-fn judge_whole(arcs: &[u32], places: &[u16], list: &[i32], counts: Counts) -> bool
-    requires { ⌜ Holds (now arcs) counts ⌝ }
+fn judge_whole(arcs: &[u32], first: &[u16], places: &[u16], list: &[i32], counts: Counts) -> bool
+    requires { ⌜ Holds (now first) (now arcs) counts ⌝ }
     requires { ⌜ (counts .arcs ≤ length (now list)) × (length (now places) ≡ counts .nodes) ⌝ }
     ensures { λ r. ⌜ r ≡ table-decision (now (arcs .entry)) counts (now (places .entry)) (now (list .entry)) ⌝ }
 {
@@ -32,17 +32,18 @@ fn judge_whole(arcs: &[u32], places: &[u16], list: &[i32], counts: Counts) -> bo
         return false;
     }
     let end = STRIDE * counts.edges;
-    let sum = wide(total(&arcs[0..end], places));
+    let layers = counts.layers;
+    let sum = wide(total(&arcs[0..end], &first[0..layers], places));
     same(signed(sum), bound(arcs, list, n))
 }
 
 // The same for longer slices, whose excess is not looked at.
-pub fn judge(arcs: &[u32], places: &[u16], list: &[i32], counts: Counts) -> bool
-    requires { ⌜ Holds (now arcs) counts ⌝ }
+pub fn judge(arcs: &[u32], first: &[u16], places: &[u16], list: &[i32], counts: Counts) -> bool
+    requires { ⌜ Holds (now first) (now arcs) counts ⌝ }
     requires { ⌜ (counts .arcs ≤ length (now list)) × (counts .nodes ≤ length (now places)) ⌝ }
     ensures { λ r. ⌜ r ≡ table-decision (now (arcs .entry)) counts (take (counts .nodes) (now (places .entry))) (take (counts .arcs) (now (list .entry))) ⌝ }
 {
     let nodes = counts.nodes;
     let n = counts.arcs;
-    judge_whole(arcs, &places[0..nodes], &list[0..n], counts)
+    judge_whole(arcs, first, &places[0..nodes], &list[0..n], counts)
 }

@@ -8,6 +8,7 @@ use crate::judge::judge;
 use arcs::Counts;
 use arcs::Loaded;
 use arcs::limits::MAX_ELEMENTS;
+use arcs::limits::MAX_FIRSTS;
 use leb128::Refusal;
 use leb128::refusals::SLICE_SHORT;
 ghost use mathlib.Core.Path.{_≡_};
@@ -32,10 +33,11 @@ pub fn check(bytes: &[u8], places: &[u16], list: &[i32]) -> Verdict
     ensures answer { λ r. ⌜ judgement r ≡ check-answer (read-sheet (now (bytes .entry))) (now (places .entry)) (now (list .entry)) ⌝ }
     ensures least { λ r. ⌜ (r ≡ Verdict.Yes → ShownLeast (read-sheet (now (bytes .entry))) (now (places .entry))) ⌝ }
 {
+    let mut first = [0u16; MAX_FIRSTS];
     let mut arcs = [0u32; MAX_ELEMENTS];
-    match arcs::load(bytes, &mut arcs) {
+    match arcs::load(bytes, &mut first, &mut arcs) {
         Loaded::Refused(r) => Verdict::Refused(r),
-        Loaded::Sheet(counts) => check_loaded(&arcs, places, list, counts),
+        Loaded::Sheet(counts) => check_loaded(&arcs, &first, places, list, counts),
     }
 }
 
@@ -49,9 +51,15 @@ fn short() -> Verdict
     })
 }
 
-// The answer on the packed arcs of a sheet.
-fn check_loaded(arcs: &[u32], places: &[u16], list: &[i32], counts: Counts) -> Verdict
-    requires { ⌜ Holds (now arcs) counts ⌝ }
+// The answer on the packed arcs of a sheet and the first nodes of its layers.
+fn check_loaded(
+    arcs: &[u32],
+    first: &[u16],
+    places: &[u16],
+    list: &[i32],
+    counts: Counts,
+) -> Verdict
+    requires { ⌜ Holds (now first) (now arcs) counts ⌝ }
     ensures { λ r. ⌜ judgement r ≡ decided (counts .nodes) (counts .arcs) (table-decision (now (arcs .entry)) counts)
         (now (places .entry)) (now (list .entry)) ⌝ }
 {
@@ -61,7 +69,7 @@ fn check_loaded(arcs: &[u32], places: &[u16], list: &[i32], counts: Counts) -> V
     if list.len() < counts.arcs {
         return short();
     }
-    if judge(arcs, places, list, counts) {
+    if judge(arcs, first, places, list, counts) {
         return Verdict::Yes;
     }
     Verdict::No

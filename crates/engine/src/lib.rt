@@ -14,9 +14,12 @@ use arcs::Counts;
 use arcs::Loaded;
 use arcs::limits::MAX_ARCS;
 use arcs::limits::MAX_ELEMENTS;
+use arcs::limits::MAX_FIRSTS;
+use arcs::total;
 use circulation::layout::NODE_STRIDE;
 use leb128::Refusal;
 use leb128::refusals::SLICE_SHORT;
+use network::layout::STRIDE;
 ghost use Rattle.sheet.specs.Reading.{«read-sheet»};
 ghost use Rattle.arcs.specs.laws.HeldArcs.{Holds};
 ghost use Rattle.engine.specs.Draws.{result, Draws};
@@ -35,10 +38,11 @@ pub fn draw(bytes: &[u8], places: &mut [u16], list: &mut [i32]) -> Answer
     ensures { λ r. ⌜ Draws (read-sheet (now (bytes .entry))) (now (places .entry)) (now (list .entry))
         (now (places .exit)) (now (list .exit)) (result r) ⌝ }
 {
+    let mut first = [0u16; MAX_FIRSTS];
     let mut arcs = [0u32; MAX_ELEMENTS];
-    match arcs::load(bytes, &mut arcs) {
+    match arcs::load(bytes, &mut first, &mut arcs) {
         Loaded::Refused(r) => Answer::Refused(r),
-        Loaded::Sheet(counts) => draw_loaded(&arcs, counts, places, list),
+        Loaded::Sheet(counts) => draw_loaded(&arcs, &first, counts, places, list),
     }
 }
 
@@ -58,17 +62,24 @@ pub enum Minimum {
 pub fn minimum_width(bytes: &[u8]) -> Minimum
     ensures { λ r. ⌜ Narrows (read-sheet (now (bytes .entry))) (narrowing r) ⌝ }
 {
+    let mut first = [0u16; MAX_FIRSTS];
     let mut arcs = [0u32; MAX_ELEMENTS];
-    match arcs::load(bytes, &mut arcs) {
+    match arcs::load(bytes, &mut first, &mut arcs) {
         Loaded::Refused(r) => Minimum::Refused(r),
-        Loaded::Sheet(counts) => narrow(&mut arcs, counts),
+        Loaded::Sheet(counts) => narrow(&mut arcs, &first, counts),
     }
 }
 
 // Draws a sheet's packed arcs, whatever the width that they were loaded with.
-fn draw_loaded(arcs: &[u32], counts: Counts, places: &mut [u16], list: &mut [i32]) -> Answer
-    requires { ⌜ Holds (now arcs) counts ⌝ }
-    ensures { λ r. ⌜ DrawsHeld (now (arcs .entry)) counts (now (places .entry)) (now (list .entry))
+fn draw_loaded(
+    arcs: &[u32],
+    first: &[u16],
+    counts: Counts,
+    places: &mut [u16],
+    list: &mut [i32],
+) -> Answer
+    requires { ⌜ Holds (now first) (now arcs) counts ⌝ }
+    ensures { λ r. ⌜ DrawsHeld (now (first .entry)) (now (arcs .entry)) counts (now (places .entry)) (now (list .entry))
         (now (places .exit)) (now (list .exit)) (result r) ⌝ }
 {
     if places.len() < counts.nodes {
@@ -81,12 +92,19 @@ fn draw_loaded(arcs: &[u32], counts: Counts, places: &mut [u16], list: &mut [i32
     let mut nodes = [0u32; MAX_NODE_NUMBERS];
     let count = counts.arcs;
     let room = NODE_STRIDE * (counts.nodes + 1);
-    draw_within(
+    let number = draw_within(
         arcs,
         counts,
         &mut flows[0..count],
         &mut nodes[0..room],
         places,
         list,
-    )
+    );
+    if number != 0 {
+        return refused(number);
+    }
+    let end = STRIDE * counts.edges;
+    let layers = counts.layers;
+    let placed = counts.nodes;
+    Answer::Drawn(total(&arcs[0..end], &first[0..layers], &places[0..placed]))
 }

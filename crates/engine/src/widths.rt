@@ -27,28 +27,28 @@ ghost use Rattle.engine.specs.inside.Widths.{TotalHeld, NarrowsHeld, Low
 const WIDEST: u16 = MAX_WIDTH as u16;
 
 // The minimum width of a sheet's packed arcs, and the total at it.
-pub fn narrow(arcs: &mut [u32], counts: Counts) -> Minimum
-    requires { ⌜ Holds (now arcs) counts ⌝ }
-    ensures { λ r. ⌜ NarrowsHeld (now (arcs .entry)) counts (narrowing r) ⌝ }
+pub fn narrow(arcs: &mut [u32], first: &[u16], counts: Counts) -> Minimum
+    requires { ⌜ Holds (now first) (now arcs) counts ⌝ }
+    ensures { λ r. ⌜ NarrowsHeld (now (first .entry)) (now (arcs .entry)) counts (narrowing r) ⌝ }
 {
     let mut values = [0u32; MAX_GROUNDED];
     let nodes = counts.nodes;
     set_width(arcs, nodes, WIDEST);
     match least(arcs, counts.arcs, nodes + 1, &mut values) {
-        Finding::Solved => narrow_to(arcs, counts, &values[0..nodes]),
+        Finding::Solved => narrow_to(arcs, first, counts, &values[0..nodes]),
         Finding::NoSolution => no_width(),
         Finding::Malformed => no_width(),
     }
 }
 
 // The same, from the lowest drawing at the greatest width: its greatest coordinate is the minimum width.
-fn narrow_to(arcs: &mut [u32], counts: Counts, low: &[u32]) -> Minimum
-    requires { ⌜ Holds (now arcs) counts ⌝ }
+fn narrow_to(arcs: &mut [u32], first: &[u16], counts: Counts, low: &[u32]) -> Minimum
+    requires { ⌜ Holds (now first) (now arcs) counts ⌝ }
     requires { ⌜ LowestHeld (now arcs) counts (now low) ⌝ }
-    ensures { λ r. ⌜ NarrowsHeld (now (arcs .entry)) counts (narrowing r) ⌝ }
+    ensures { λ r. ⌜ NarrowsHeld (now (first .entry)) (now (arcs .entry)) counts (narrowing r) ⌝ }
 {
     let width = greatest(low);
-    match total_at(arcs, counts, width) {
+    match total_at(arcs, first, counts, width) {
         Answer::Drawn(total) => Minimum::Found(Narrowest {
             width: width,
             total: total,
@@ -58,16 +58,16 @@ fn narrow_to(arcs: &mut [u32], counts: Counts, low: &[u32]) -> Minimum
 }
 
 // The total of a sheet's packed arcs at a width, or that there is no drawing; the arcs stay at that width.
-fn total_at(arcs: &mut [u32], counts: Counts, width: u16) -> Answer
-    requires { ⌜ Holds (now arcs) counts ⌝ }
+fn total_at(arcs: &mut [u32], first: &[u16], counts: Counts, width: u16) -> Answer
+    requires { ⌜ Holds (now first) (now arcs) counts ⌝ }
     requires { ⌜ width ≤ max-width ⌝ }
-    ensures answer { λ r. ⌜ TotalHeld (now (arcs .entry)) counts width (result r) ⌝ }
+    ensures answer { λ r. ⌜ TotalHeld (now (first .entry)) (now (arcs .entry)) counts width (result r) ⌝ }
     ensures slice { λ r. ⌜ now (arcs .exit) ≡ widened (counts .nodes) width (now (arcs .entry)) ⌝ }
 {
     let mut places = [0u16; MAX_NODES as usize];
     let mut list = [0i32; MAX_ARCS];
     set_width(arcs, counts.nodes, width);
-    draw_loaded(arcs, counts, &mut places, &mut list)
+    draw_loaded(arcs, first, counts, &mut places, &mut list)
 }
 
 // The greatest of numbers that fit 16 bits, 0 where there are none.

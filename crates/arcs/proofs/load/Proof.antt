@@ -1,9 +1,8 @@
 -- `arcs::load` meets its contract: a refusal is the reader's, and what was read is good.
 use native.Mathlib.Omega.{arith}
-use lib.ListN.{length}
 use borrow.Author.Needs.{needs}
 use Rattle.sheet.specs.laws.ReadInto.{read-room}
-use Rattle.arcs.proofs.laws.Load.{done-good, done-answer, done-slice, refused-answer, refused-slice}
+use Rattle.arcs.proofs.laws.Load.{done-good, done-loads, reader-loads}
 use Rattle.arcs.proofs.load.Statement.{statement}
 use Rattle.arcs.proofs.load.Tie as tie
 
@@ -27,44 +26,41 @@ part-load-numbers-start c = search needs
 
 part-load-numbers-end : tie.Need-part-load-numbers-end
 part-load-numbers-end c =
-    let start = c .before .before .before .before .before .before .before .before .before in
+    let start = c .before .before .before .before .before .before .before .before .before .before in
     let read = c .before .before .before .before .before .read in
     let h =
-    read-room (start .args .bytes .now) _ _ (read .ensures .0) (read .ensures .1)
-    (c .before .before .answer2 .given .1) in
+    read-room (start .args .bytes .now) _ _ (read .ensures .0) (read .ensures .1) (c .before .before .answer2 .given .1) in
     omega arith
 
 load-numbers-requires : tie.Need-load-numbers-requires
 load-numbers-requires c κs =
-    let start = c .before .before .before .before .before .before .before .before .before .before .before in
-    let read = c .before .before .before .before .before .before .before .read in
-    let answer2 = c .before .before .before .before .answer2 in
+    let start = c .before .before .before .before .before .before .before .before .before .before .before .before .before in
+    let read = c .before .before .before .before .before .before .before .before .read in
+    let answer2 = c .before .before .before .before .before .answer2 in
     done-good (start .args .bytes .now) _ _ (read .ensures .0) (read .ensures .1) (answer2 .given .1)
 
 returns : tie.Need-returns
 returns c =
-    let start = c .before .before .before .before .before .before .before .before in
-    let read = c .before .before .before .before .read in (
-      refused-answer (start .args .bytes .now) _ _ (read .ensures .0) (read .ensures .1) (omega arith)
-          (c .before .answer .given .1) (length (start .args .arcs .now)),
-      refused-slice (start .args .bytes .now) _ _ (read .ensures .0) (read .ensures .1) (omega arith)
-          (c .before .answer .given .1) (start .args .arcs .now),
-    )
+    let start = c .before .before .before .before .before .before .before .before .before in
+    let read = c .before .before .before .before .read in
+    reader-loads (start .args .bytes .now) _ _ (read .ensures .0) (read .ensures .1) (omega arith)
+    (c .before .answer .given .1) (start .args .first .now) (start .args .arcs .now)
 
 same-length : tie.Need-same-length
 same-length c = search needs
 
+same-length-2 : tie.Need-same-length-2
+same-length-2 c = search needs
+
 returns-2 : tie.Need-returns-2
 returns-2 c =
-    let start = c .before .before .before .before .before .before .before .before .before .before .before .before .before .before in
-    let read = c .before .before .before .before .before .before .before .before .before .before .read in
-    let answer2 = c .before .before .before .before .before .before .before .answer2 in
-    let load-numbers = c .before .before .load-numbers in (
-      done-answer (start .args .bytes .now) _ _ (read .ensures .0) (read .ensures .1) (answer2 .given .1) _
-          (load-numbers .ensures .0),
-      done-slice (start .args .bytes .now) _ _ (read .ensures .0) (read .ensures .1) (answer2 .given .1)
-          (start .args .arcs .now) (load-numbers .ensures .1),
-    )
+    let earlier = c .before .before .before .before .before .before .before .before .before .before .before .before in
+    let start = earlier .before .before .before .before .before .before in
+    let read = c .before .before .before .before .before .before .before .before .before .before .before .before .before .read in
+    let answer2 = c .before .before .before .before .before .before .before .before .before .before .answer2 in
+    let load-numbers = c .before .before .before .before .load-numbers in
+    done-loads (start .args .bytes .now) _ _ (read .ensures .0) (read .ensures .1) (answer2 .given .1)
+    (start .args .first .now) (start .args .arcs .now) _ _ (load-numbers .result) (load-numbers .ensures)
 
 pub load-spec : {M : Type 1} → statement M
 load-spec =
@@ -80,4 +76,5 @@ load-spec =
     load-numbers-requires
     returns
     same-length
+    same-length-2
     returns-2)

@@ -1,8 +1,8 @@
--- A slice that holds the packed arcs of a good sheet: they mean the sheet's network, and those of the edges come first, each with
--- the ends of its edge and the weight that it carries.
+-- Two slices that hold the first nodes and the packed arcs of a good sheet: the arcs mean the sheet's network, and those of the edges
+-- come first, each with the ends of its edge and the weight that it carries.
 use Prim.Native.Nat.{ℕ, _+_, _*_, _≤_, _<_}
-use mathlib.Core.Path.{_≡_, _∙_, ap, ap₂}
-use mathlib.Core.List.{List, _++_, map, flatMap, append-assoc}
+use mathlib.Core.Path.{_≡_, sym, _∙_, ap, ap₂}
+use mathlib.Core.List.{List, [], _∷_, _++_, map, flatMap, append-assoc}
 use native.Mathlib.Omega.{arith}
 use lib.Dec.{T}
 use lib.ListN.{length, getD, take, drop, length-append, length-map}
@@ -17,7 +17,7 @@ use Rattle.network.specs.Sums.{all}
 use Rattle.network.specs.Network.{Arc}
 use Rattle.network.specs.Packed.{kink-at, stride, kink-zero, packs, packed, storable, arcs-to, network-of}
 use Rattle.network.specs.laws.PackedBack.{packs-append, packs-length, arcs-back, kinks-in}
-use Rattle.drawing.specs.Sheet.{Edge, Sheet, sheet-of}
+use Rattle.drawing.specs.Sheet.{Layer, Edge, Sheet, sheet-of}
 use Rattle.drawing.specs.Traces.{traces}
 use Rattle.drawing.specs.Certificate.{certificate-size}
 use Rattle.drawing.specs.Arcs.{edge-arc, layer-arcs, network}
@@ -30,41 +30,47 @@ use Rattle.drawing.specs.laws.ProperEdges.{edge-parts, proper-traces}
 use Rattle.drawing.specs.laws.ArcCount.{arcs-count}
 use Rattle.drawing.specs.laws.ArcLimits.{network-storable}
 use Rattle.arcs.specs.declared.Counts.{Counts}
-use Rattle.arcs.specs.Loading.{arcs-size}
+use Rattle.arcs.specs.Loading.{layer-firsts, firsts-size, arcs-size}
+use Rattle.arcs.specs.laws.LayerFirsts.{firsts-length}
 use Rattle.arcs.specs.Lengths.{edge-from}
 use Rattle.arcs.specs.laws.PackedEdges.{Packs, packed-edge}
 use Rattle.arcs.specs.laws.Loaded.{LoadedSheet}
 
--- the packed arcs of a good sheet of these counts, whatever stands behind them
-pub record Holds (a : List ℕ) (c : Counts) : Type 0 where
+-- the first nodes and the packed arcs of a good sheet of these counts, whatever stands behind them
+pub record Holds (f a : List ℕ) (c : Counts) : Type 0 where
   pub numbers : List ℕ
   pub good : Accepts sheet numbers
+  pub firsts-behind : List ℕ
+  pub firsts-are : f ≡ layer-firsts (sheet-of numbers) ++ firsts-behind
   pub behind : List ℕ
   pub packed-are : a ≡ packed (network (sheet-of numbers)) ++ behind
+  pub layers-are : c .layers ≡ length (sheet-of numbers .layers)
   pub nodes-are : c .nodes ≡ sheet-of numbers .nodes
   pub edges-are : c .edges ≡ length (sheet-of numbers .edges)
   pub arcs-are : c .arcs ≡ length (network (sheet-of numbers) .arcs)
 
--- so does a slice into which a sheet was loaded
-pub loaded-holds : {bytes old new : List ℕ} {c : Counts} → LoadedSheet bytes old new c → Holds new c
-unfolding packed
-loaded-holds {bytes} {old} l = record {
+-- so do slices into which a sheet was loaded
+pub loaded-holds : {bytes f₀ f a₀ a : List ℕ} {c : Counts} → LoadedSheet bytes f₀ f a₀ a c → Holds f a c
+loaded-holds {f₀ = f₀} {a₀ = a₀} l = record {
   numbers = l .numbers;
   good = l .good;
-  behind = drop (arcs-size (sheet-of (l .numbers))) old;
-  packed-are = l .slice;
-  nodes-are = l .nodes;
-  edges-are = l .edges;
-  arcs-are = l .arcs;
+  firsts-behind = drop (firsts-size (sheet-of (l .numbers))) f₀;
+  firsts-are = l .firsts;
+  behind = drop (arcs-size (sheet-of (l .numbers))) a₀;
+  packed-are = l .arcs;
+  layers-are = ap (λ (c : Counts). c .layers) (l .counts);
+  nodes-are = ap (λ (c : Counts). c .nodes) (l .counts);
+  edges-are = ap (λ (c : Counts). c .edges) (l .counts);
+  arcs-are = ap (λ (c : Counts). c .arcs) (l .counts);
 }
 
 -- the numbers are those that reading gives
-pub holds-reads : {bytes old new : List ℕ} {c : Counts} (l : LoadedSheet bytes old new c)
+pub holds-reads : {bytes f₀ f a₀ a : List ℕ} {c : Counts} (l : LoadedSheet bytes f₀ f a₀ a c)
     → read-sheet bytes ≡ elements (loaded-holds l .numbers)
 unfolding loaded-holds
 holds-reads l = l .reads
 
-module _ {a : List ℕ} {c : Counts} (h : Holds a c) where
+module _ {f a : List ℕ} {c : Counts} (h : Holds f a c) where
   -- the sheet
   abbrev S : Sheet
   S = sheet-of (h .numbers)
@@ -87,6 +93,19 @@ module _ {a : List ℕ} {c : Counts} (h : Holds a c) where
   -- few nodes
   pub nodes-few : c .nodes ≤ max-nodes
   nodes-few = omega (arith, h .nodes-are, proper .nodes)
+
+  -- the first nodes are there, with the count of nodes
+  pub firsts-there : c .layers + 1 ≤ length f
+  firsts-there =
+      omega (arith, ap length (h .firsts-are) ∙ length-append (layer-firsts S) (h .firsts-behind), firsts-length S, h .layers-are)
+
+  -- those of the layers come first
+  pub firsts-front : take (c .layers) f ≡ map (λ (l : Layer). l .first) (S .layers)
+  firsts-front =
+      let firsts : List ℕ = map (λ (l : Layer). l .first) (S .layers) in
+      ap (take (c .layers)) (h .firsts-are ∙ append-assoc firsts (S .nodes ∷ []) (h .firsts-behind))
+      ∙ take-at firsts (S .nodes ∷ h .firsts-behind) (c .layers)
+      (length-map (S .layers) (λ (l : Layer). l .first) ∙ sym (h .layers-are))
 
   -- the arcs, and what stands behind them
   front : a ≡ packs xs ++ h .behind

@@ -1,7 +1,7 @@
 -- A packed edge has the ends of its edge and, if it is plain, its weight: in front of the packed edges, and so at each index.
 use Prim.Native.Nat.{ℕ, zero, suc, _+_, _*_, _/_, _≤_, _<_}
 use mathlib.Core.Path.{_≡_, refl, sym, _∙_, ap}
-use mathlib.Core.List.{List, _∷_, map}
+use mathlib.Core.List.{List, [], _∷_, map}
 use native.Mathlib.Omega.{arith}
 use lib.ListN.{length, drop, length-map}
 use lib.Seq.{drop-drop}
@@ -58,6 +58,12 @@ behind-packs {i = suc i} (later {x = x} {e = e} {es = es} a) h =
 at-inside : {es : List Edge} {i : ℕ} {e : Edge} → At es i e → i < length es
 at-inside here = omega arith
 at-inside (later a) = omega (arith, at-inside a)
+
+-- below their count an edge stands at each index
+pub inside-at : (es : List Edge) (i : ℕ) → i < length es → (e : Edge) × At es i e
+inside-at [] i h = absurd (omega arith)
+inside-at (e ∷ es) zero h = (e, here)
+inside-at (e ∷ es) (suc i) h = let rest = inside-at es i (omega arith) in (rest .0, later (rest .1))
 
 -- packed edge i is that of edge i
 pub packed-edge : {es : List Edge} {i : ℕ} {e : Edge} → At es i e → e .weight ≤ max-weight

@@ -31,6 +31,7 @@ use Rattle.drawing.specs.laws.ProperEdges.{edge-parts, proper-traces}
 use Rattle.drawing.specs.laws.Widths.{width-accepts, width-sheet}
 use Rattle.arcs.specs.declared.Counts.{Counts}
 use Rattle.arcs.specs.inside.Pieces.{pair-at, layer-at}
+use Rattle.arcs.specs.Loading.{layer-firsts}
 use Rattle.arcs.specs.Widths.{widened-to, widened}
 use Rattle.arcs.specs.laws.PackedEdges.{ends}
 use Rattle.arcs.specs.laws.HeldArcs.{Holds}
@@ -135,9 +136,9 @@ sheet-widened width s a behind =
     widened-packs (sheet-of s .nodes) width (network (sheet-of s) .arcs) behind
     ∙ ap (λ (l : List Arc). packs l ++ widened (sheet-of s .nodes) width behind) (network-widened width s a)
 
-module _ {a : List ℕ} {c : Counts} (width : ℕ) (l : width ≤ max-width) (h : Holds a c) where
-  -- the packed arcs of a good sheet stay those of a good sheet, with the same counts
-  pub holds-width : Holds (widened (c .nodes) width a) c
+module _ {f a : List ℕ} {c : Counts} (width : ℕ) (l : width ≤ max-width) (h : Holds f a c) where
+  -- the packed arcs of a good sheet stay those of a good sheet, with the same first nodes and counts
+  pub holds-width : Holds f (widened (c .nodes) width a) c
   holds-width =
       let S : Sheet = sheet-of (h .numbers) in
       let arcs : List Arc = network S .arcs in
@@ -147,11 +148,14 @@ module _ {a : List ℕ} {c : Counts} (width : ℕ) (l : width ≤ max-width) (h 
       record {
         numbers = with-width width (h .numbers);
         good = width-accepts width l (h .good);
+        firsts-behind = h .firsts-behind;
+        firsts-are = h .firsts-are ∙ ap (λ (S : Sheet). layer-firsts S ++ h .firsts-behind) (sym same);
         behind = widened (S .nodes) width (h .behind);
         packed-are =
             ap₂ (λ (ground : ℕ) (l : List ℕ). widened ground width l) (h .nodes-are) (h .packed-are)
             ∙ sheet-widened width (h .numbers) (h .good) (h .behind)
             ∙ ap (λ (S : Sheet). packed (network S) ++ widened (sheet-of (h .numbers) .nodes) width (h .behind)) (sym same);
+        layers-are = h .layers-are ∙ ap (λ (S : Sheet). length (S .layers)) (sym same);
         nodes-are = h .nodes-are ∙ ap (λ (S : Sheet). S .nodes) (sym same);
         edges-are = h .edges-are ∙ ap (λ (S : Sheet). length (S .edges)) (sym same);
         arcs-are = h .arcs-are ∙ sym (length-map arcs (at-kink (S .nodes) width)) ∙ ap length became;

@@ -57,7 +57,7 @@ module _ (nodes size : ℕ) (decision : List ℕ → List ℤ → Bool) (places 
     unfolding judgement
     says-no e = sym (ap Reply.value e) ∙ long-enough
 
-module _ {a : List ℕ} {c : Counts} (h : Holds a c) where
+module _ {f a : List ℕ} {c : Counts} (h : Holds f a c) where
   -- the packed arcs decide as the sheet does
   same-decision : table-decision a c ≡ judged (sheet-of (h .numbers))
   same-decision =
@@ -77,9 +77,9 @@ module _ {a : List ℕ} {c : Counts} (h : Holds a c) where
   unfolding check-answer
   held-answer bytes places list e = rw e (held-numbers places list)
 
--- a slice into which a sheet was loaded answers for the sheet's bytes
-pub loaded-answer : {bytes old new : List ℕ} {c : Counts} → LoadedSheet bytes old new c → (places : List ℕ) (list : List ℤ)
-    → decided (c .nodes) (c .arcs) (table-decision new c) places list ≡ check-answer (read-sheet bytes) places list
+-- slices into which a sheet was loaded answer for the sheet's bytes
+pub loaded-answer : {bytes f₀ f a₀ a : List ℕ} {c : Counts} → LoadedSheet bytes f₀ f a₀ a c → (places : List ℕ) (list : List ℤ)
+    → decided (c .nodes) (c .arcs) (table-decision a c) places list ≡ check-answer (read-sheet bytes) places list
 loaded-answer {bytes} l places list = held-answer (loaded-holds l) bytes places list (holds-reads l)
 
 -- a refusal of reading is the answer

@@ -33,7 +33,7 @@ less-none n = omega arith
 pub front-length : {A : Type 0} (n : ℕ) (l : List A) → n ≤ length l → length (take (n - 0) l) ≡ n
 front-length n l h = rw (less-none n) (length-take-le n l h)
 
-module _ {a : List ℕ} {c : Counts} (h : Holds a c) (p : List ℕ) (long : length p ≡ c .nodes)
+module _ {f a : List ℕ} {c : Counts} (h : Holds f a c) (p : List ℕ) (long : length p ≡ c .nodes)
     (e : all (legal (integers p)) (arcs-to a (c .arcs)) ≡ true) where
   -- legal places are a drawing of the sheet
   is-drawing : Drawing (sheet-of (h .numbers)) p
@@ -53,7 +53,7 @@ module _ {a : List ℕ} {c : Counts} (h : Holds a c) (p : List ℕ) (long : leng
       ∙ sym (same-total (sheet-of (h .numbers)) p is-drawing)
       ∙ sym (ap (λ (N : Network). total N (integers p)) (network-is h))
 
-module _ {a : List ℕ} {c : Counts} (h : Holds a c) (p : List ℕ) (y : List ℤ) (long : length p ≡ c .nodes) where
+module _ {f a : List ℕ} {c : Counts} (h : Holds f a c) (p : List ℕ) (y : List ℤ) (long : length p ≡ c .nodes) where
   -- every arc is legal
   abbrev legals : Bool
   legals = all (legal (integers p)) (arcs-to a (c .arcs))
@@ -81,19 +81,19 @@ module _ {a : List ℕ} {c : Counts} (h : Holds a c) (p : List ℕ) (y : List �
     pub not-legal : not legal ≡ true → false ≡ table-decision a c p y
     not-legal t = sym (parts ∙ rw (sym l ∙ not-true legal t))
 
-    module _ (t : not legal ≡ false) {allowed : Bool} (f : allowed ≡ alloweds) where
+    module _ (t : not legal ≡ false) {allowed : Bool} (w : allowed ≡ alloweds) where
       -- a flow is not within its limits
       pub not-allowed : not allowed ≡ true → false ≡ table-decision a c p y
-      not-allowed u = sym (parts ∙ rw (sym l ∙ not-false legal t, sym f ∙ not-true allowed u))
+      not-allowed u = sym (parts ∙ rw (sym l ∙ not-false legal t, sym w ∙ not-true allowed u))
 
       module _ (u : not allowed ≡ false) {balanced : Bool} (b : balanced ≡ balances) where
         -- a node is not in balance
         pub not-balanced : not balanced ≡ true → false ≡ table-decision a c p y
-        not-balanced v = sym (parts ∙ rw (sym l ∙ not-false legal t, sym f ∙ not-false allowed u, sym b ∙ not-true balanced v))
+        not-balanced v = sym (parts ∙ rw (sym l ∙ not-false legal t, sym w ∙ not-false allowed u, sym b ∙ not-true balanced v))
 
         -- the total and the bound decide
         pub by-bound : not balanced ≡ false → {r : ℕ} {z : ℤ} → r ≡ min u32-most (lengths-of p (take (stride * c .edges - 0) a))
             → z ≡ sum bound-term (upto (c .arcs) (flow-at a y)) → eqZ (pos r) z ≡ table-decision a c p y
         by-bound v q z =
             ap₂ eqZ (total-is h p long (sym l ∙ not-false legal t) q) z
-            ∙ sym (parts ∙ rw (sym l ∙ not-false legal t, sym f ∙ not-false allowed u, sym b ∙ not-false balanced v))
+            ∙ sym (parts ∙ rw (sym l ∙ not-false legal t, sym w ∙ not-false allowed u, sym b ∙ not-false balanced v))

@@ -7,7 +7,7 @@ use Rattle.arcs.specs.laws.HeldArcs.{Holds, proper, size-is, arcs-there, kinks-
 use Rattle.checker.specs.inside.Table.{Table}
 
 -- each arc is there, with a small kink
-pub table : {a : List ℕ} {c : Counts} → Holds a c → Table a (c .arcs)
+pub table : {f a : List ℕ} {c : Counts} → Holds f a c → Table a (c .arcs)
 table h = record {
   few = omega (arith, size-is h, proper h .few, proper h .nodes);
   arcs = λ i l. record { there = omega (arith, arcs-there h); kink = kinks-small h i l };

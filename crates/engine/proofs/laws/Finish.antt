@@ -1,7 +1,7 @@
 -- What is written at the end is what the contract says: the leftmost least potentials are coordinates, the flows a list whose
--- bound is the total, by duality.
+-- bound is the total, by duality; and the code's total of these coordinates is theirs.
 use Prim.Native.Nat.{ℕ, _+_, _-_, _*_, _≤_, _<_, min}
-use mathlib.Core.Path.{_≡_, sym, _∙_, ap, ap₂, subst}
+use mathlib.Core.Path.{_≡_, refl, sym, _∙_, ap, ap₂, subst}
 use mathlib.Core.List.{List, _++_, map}
 use native.Mathlib.Nat.{add-zero}
 use native.Mathlib.Omega.{arith}
@@ -39,14 +39,14 @@ use Rattle.checker.proofs.laws.DecisionParts.{less-none}
 use Rattle.engine.specs.Draws.{Returns}
 use Rattle.engine.proofs.laws.Fits.{meant-is}
 use Rattle.engine.specs.inside.Results.{place-at, number-at, Places, Flows}
-use Rattle.engine.specs.inside.Stages.{Settled}
+use Rattle.engine.specs.inside.Stages.{FillsSheet, Settled}
 
 -- a natural number that is a difference
 natural-difference : (k b z : ℕ) → pos k ≡ pos b -ℤ pos z → b ≡ z + k
 unfolding up down
 natural-difference k b z e = omega (arith, less-parts b z, ap up e, ap down e)
 
-module _ {a : List ℕ} {c : Counts} (h : Holds a c) (flows nodes : List ℕ) (flows-are : length flows ≡ c .arcs)
+module _ {f a : List ℕ} {c : Counts} (h : Holds f a c) (flows nodes : List ℕ) (flows-are : length flows ≡ c .arcs)
     (nodes-are : length nodes ≡ node-stride * (c .nodes + 1)) (s : Settled a c flows nodes) where
   -- the sheet
   abbrev S : Sheet
@@ -159,33 +159,35 @@ module _ {a : List ℕ} {c : Counts} (h : Holds a c) (flows nodes : List ℕ) (f
     numbers-front : take (certificate-size S) y′ ≡ y
     numbers-front = ap (take (certificate-size S)) list-is ∙ take-at y (drop (certificate-size S) y₀) (certificate-size S) y-size
 
-    -- the total
-    total-of : (r : ℕ) → r ≡ min u32-most (lengths-of (take (c .nodes - 0) p′) (take (stride * c .edges - 0) a))
-        → r ≡ total-length S p
-    total-of r e =
-        e
-        ∙ ap₂ (λ (l k : List ℕ). min u32-most (lengths-of l k))
-        (ap (λ (k : ℕ). take k p′) (less-none (c .nodes) ∙ h .nodes-are) ∙ front)
-        (ap (λ (k : ℕ). take k a) (less-none (stride * c .edges)) ∙ edges-front h)
-        ∙ drawing-total S p (proper h) (drawing-is .is-least .candidate)
-
     -- what the contract says
-    pub returned : (r : ℕ) → r ≡ min u32-most (lengths-of (take (c .nodes - 0) p′) (take (stride * c .edges - 0) a))
-        → Returns S p₀ y₀ p′ y′ r
-    returned r e =
-        let t : r ≡ total-length S p = total-of r e in
-        record {
-          room = record { nodes = omega (arith, h .nodes-are); numbers = omega (arith, size-is h) };
-          leftmost = subst (LeftmostDrawing S) (sym front) drawing-is;
-          places-behind = ap (drop (S .nodes)) places-are ∙ drop-at p (drop (S .nodes) p₀) (S .nodes) (p-size ∙ h .nodes-are);
-          total-is = t ∙ ap (total-length S) (sym front);
-          list-size =
-              ap length list-is
-              ∙ length-append y (drop (certificate-size S) y₀)
-              ∙ omega (arith, y-size, length-drop (certificate-size S) y₀, size-is h);
-          list-behind =
-              ap (drop (certificate-size S)) list-is
-              ∙ drop-at y (drop (certificate-size S) y₀) (certificate-size S) y-size;
-          rules = subst (λ (l : List ℤ). T (meets-rules S l)) (sym numbers-front) (subst T (same-rules S y) rules-met);
-          bound-is = ap (bound S) numbers-front ∙ bound-is ∙ ap pos (sym t);
-        }
+    pub filled : FillsSheet S p₀ y₀ p′ y′ 0
+    filled = record {
+      room = record { nodes = omega (arith, h .nodes-are); numbers = omega (arith, size-is h) };
+      leftmost = subst (LeftmostDrawing S) (sym front) drawing-is;
+      places-behind = ap (drop (S .nodes)) places-are ∙ drop-at p (drop (S .nodes) p₀) (S .nodes) (p-size ∙ h .nodes-are);
+      total-is = refl;
+      list-size =
+          ap length list-is
+          ∙ length-append y (drop (certificate-size S) y₀)
+          ∙ omega (arith, y-size, length-drop (certificate-size S) y₀, size-is h);
+      list-behind =
+          ap (drop (certificate-size S)) list-is
+          ∙ drop-at y (drop (certificate-size S) y₀) (certificate-size S) y-size;
+      rules = subst (λ (l : List ℤ). T (meets-rules S l)) (sym numbers-front) (subst T (same-rules S y) rules-met);
+      bound-is = ap (bound S) numbers-front ∙ bound-is ∙ ap (λ (l : List ℕ). pos (total-length S l)) (sym front);
+    }
+
+-- the total of places that are filled in
+pub totalled : {f a : List ℕ} {c : Counts} (h : Holds f a c) (p₀ p : List ℕ) (y₀ y : List ℤ) (r : ℕ)
+    → FillsSheet (sheet-of (h .numbers)) p₀ y₀ p y 0
+    → r ≡ min u32-most (lengths-of (take (c .nodes - 0) p) (take (stride * c .edges - 0) a))
+    → Returns (sheet-of (h .numbers)) p₀ y₀ p y r
+totalled {a = a} {c} h p₀ p y₀ y r filled e =
+    let S : Sheet = sheet-of (h .numbers) in
+    let same : r ≡ total-length S (take (S .nodes) p) =
+    e
+    ∙ ap₂ (λ (l k : List ℕ). min u32-most (lengths-of l k))
+    (ap (λ (k : ℕ). take k p) (less-none (c .nodes) ∙ h .nodes-are))
+    (ap (λ (k : ℕ). take k a) (less-none (stride * c .edges)) ∙ edges-front h)
+    ∙ drawing-total S (take (S .nodes) p) (proper h) (filled .leftmost .is-least .candidate) in
+    subst (Returns S p₀ y₀ p y) (sym same) filled

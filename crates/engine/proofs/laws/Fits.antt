@@ -60,20 +60,20 @@ high-number l t = go (ℕ-discrete l high-none)
     go (no ne) = stored (pos l -ℤ pos flow-zero) (less-parts l flow-zero) (rw (ne-eqb l high-none ne) at t)
 
 -- the network that the solver reads is the sheet's
-pub meant-is : {a : List ℕ} {c : Counts} (h : Holds a c)
+pub meant-is : {f a : List ℕ} {c : Counts} (h : Holds f a c)
     → meant (net a (c .arcs)) (c .nodes + 1) ≡ network (sheet-of (h .numbers))
-meant-is {a} {c} h = ap (λ (k : ℕ). network-of a k (c .arcs)) less-one ∙ network-is h
+meant-is {a = a} {c} h = ap (λ (k : ℕ). network-of a k (c .arcs)) less-one ∙ network-is h
   where
     less-one : c .nodes + 1 - 1 ≡ c .nodes
     less-one = omega arith
 
 -- so a drawing is feasible there
-pub meant-feasible : {a : List ℕ} {c : Counts} (h : Holds a c) (q : List ℕ) → Drawing (sheet-of (h .numbers)) q
+pub meant-feasible : {f a : List ℕ} {c : Counts} (h : Holds f a c) (q : List ℕ) → Drawing (sheet-of (h .numbers)) q
     → Feasible (meant (net a (c .arcs)) (c .nodes + 1)) (integers q)
 meant-feasible h q d =
     subst (λ (N : Network). Feasible N (integers q)) (sym (meant-is h)) (drawing-feasible (sheet-of (h .numbers)) q d)
 
-module _ {a : List ℕ} {c : Counts} (h : Holds a c) where
+module _ {f a : List ℕ} {c : Counts} (h : Holds f a c) where
   -- few nodes
   pub nodes-few : c .nodes ≤ 256
   nodes-few = omega (arith, h .nodes-are, proper h .nodes)

@@ -48,36 +48,36 @@ greatest-next s i h =
 pub greatest-end : (s : List ℕ) (i : ℕ) → length s ≤ i → greatest (drop i s) ≡ 0
 greatest-end s i h = ap greatest (drop-of-length-le s h)
 
-module _ {a : List ℕ} {c : Counts} (width : ℕ) (l : width ≤ max-width) {b : List ℕ} (e : b ≡ widened (c .nodes) width a) where
+module _ {f a : List ℕ} {c : Counts} (width : ℕ) (l : width ≤ max-width) {b : List ℕ} (e : b ≡ widened (c .nodes) width a) where
   -- arcs at another width are held
-  pub holds-at : Holds a c → Holds b c
-  holds-at h = subst (λ (x : List ℕ). Holds x c) (sym e) (holds-width width l h)
+  pub holds-at : Holds f a c → Holds f b c
+  holds-at h = subst (λ (x : List ℕ). Holds f x c) (sym e) (holds-width width l h)
 
   -- what is said of them is said of the sheet at that width
-  pub held-at : (P : Sheet → Type 0) → ((h : Holds b c) → P (sheet-of (h .numbers))) → (h : Holds a c)
+  pub held-at : (P : Sheet → Type 0) → ((h : Holds f b c) → P (sheet-of (h .numbers))) → (h : Holds f a c)
       → P (at-width width (sheet-of (h .numbers)))
-  held-at P f h =
+  held-at P g h =
       subst P (holds-width-sheet width l h)
-      (subst (λ (x : List ℕ). (h : Holds x c) → P (sheet-of (h .numbers))) e f (holds-width width l h))
+      (subst (λ (x : List ℕ). (h : Holds f x c) → P (sheet-of (h .numbers))) e g (holds-width width l h))
 
   -- the total at the width, from what drawing them answers
   pub total-held : (p₀ : List ℕ) (y₀ : List ℤ) (p : List ℕ) (y : List ℤ) (d : Drawn) → max-nodes ≤ length p₀ → max-arcs ≤ length y₀
-      → DrawsHeld b c p₀ y₀ p y d → TotalHeld a c width d
+      → DrawsHeld f b c p₀ y₀ p y d → TotalHeld f a c width d
   total-held p₀ y₀ p y d places numbers g h =
       drawn-totals (sheet-of (h .numbers)) width p₀ y₀ p y
       (record { nodes = omega (arith, h .nodes-are, nodes-few h); numbers = omega (arith, size-is h, arcs-few h) }) d
       (held-at (λ (S : Sheet). DrawsSheet S p₀ y₀ p y d) g h)
 
   -- an answer for them is one for the sheet
-  pub narrows-held : (n : Narrowed) → NarrowsHeld b c n → NarrowsHeld a c n
+  pub narrows-held : (n : Narrowed) → NarrowsHeld f b c n → NarrowsHeld f a c n
   narrows-held n g h = any-width width (sheet-of (h .numbers)) n (held-at (λ (S : Sheet). NarrowsSheet S n) g h)
 
 -- where no potentials are feasible at the greatest width, no width has a drawing
-pub none-held : {a : List ℕ} {c : Counts} {b : List ℕ} → b ≡ widened (c .nodes) max-width a
+pub none-held : {f a : List ℕ} {c : Counts} {b : List ℕ} → b ≡ widened (c .nodes) max-width a
     → NoneFeasible (meant (net b (c .arcs)) (c .nodes + 1)) → {r : Minimum} → r ≡ Refused (refusal no-width 0)
-    → NarrowsHeld a c (narrowing r)
+    → NarrowsHeld f a c (narrowing r)
 unfolding narrowing
-none-held {a} {c} e none is h =
+none-held {a = a} {c} e none is h =
     subst (λ (r : Minimum). NarrowsSheet (sheet-of (h .numbers)) (narrowing r)) (sym is) (
       refl,
       λ w l. none-narrower (sheet-of (h .numbers)) w max-width l
@@ -85,7 +85,7 @@ none-held {a} {c} e none is h =
           (λ k q d. none q (meant-feasible k q d)) h),
     )
 
-module _ {a : List ℕ} {c : Counts} (low : List ℕ) (lowest : LowestHeld a c low) (h : Holds a c) where
+module _ {f a : List ℕ} {c : Counts} (low : List ℕ) (lowest : LowestHeld a c low) (h : Holds f a c) where
   -- the sheet
   abbrev S : Sheet
   S = sheet-of (h .numbers)
@@ -129,7 +129,7 @@ unfolding Narrows narrowing
 refused-narrows bytes e = rw e refl
 
 -- a sheet that was loaded
-pub loaded-narrows : {bytes old new : List ℕ} {c : Counts} (l : LoadedSheet bytes old new c) (n : Narrowed)
-    → NarrowsHeld new c n → Narrows (read-sheet bytes) n
+pub loaded-narrows : {bytes f₀ f a₀ a : List ℕ} {c : Counts} (l : LoadedSheet bytes f₀ f a₀ a c) (n : Narrowed)
+    → NarrowsHeld f a c n → Narrows (read-sheet bytes) n
 unfolding Narrows
 loaded-narrows l n g = subst (λ (x : Result). Narrows x n) (sym (holds-reads l)) (g (loaded-holds l))

@@ -20,13 +20,13 @@ abbrev pub TotalsAt : Sheet → ℕ → Drawn → Type 0
 TotalsAt S width (Reply.value total) = TotalAt S width total
 TotalsAt S width (Reply.refused r) = (r ≡ refusal no-drawing 0) × NoDrawing (at-width width S)
 
--- the same for the sheet whose packed arcs are held
-abbrev pub TotalHeld : (a : List ℕ) (c : Counts) (width : ℕ) → Drawn → Type 0
-TotalHeld a c width d = (h : Holds a c) → TotalsAt (sheet-of (h .numbers)) width d
+-- the same for the sheet that is held
+abbrev pub TotalHeld : (f a : List ℕ) (c : Counts) (width : ℕ) → Drawn → Type 0
+TotalHeld f a c width d = (h : Holds f a c) → TotalsAt (sheet-of (h .numbers)) width d
 
--- the contract of the minimum width, for the sheet whose packed arcs are held
-abbrev pub NarrowsHeld : (a : List ℕ) (c : Counts) → Narrowed → Type 0
-NarrowsHeld a c n = (h : Holds a c) → NarrowsSheet (sheet-of (h .numbers)) n
+-- the contract of the minimum width, for the sheet that is held
+abbrev pub NarrowsHeld : (f a : List ℕ) (c : Counts) → Narrowed → Type 0
+NarrowsHeld f a c n = (h : Holds f a c) → NarrowsSheet (sheet-of (h .numbers)) n
 
 -- the lowest potentials of packed arcs
 abbrev pub LowestHeld : (a : List ℕ) (c : Counts) (low : List ℕ) → Type 0

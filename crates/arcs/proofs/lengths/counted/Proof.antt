@@ -3,7 +3,7 @@ use mathlib.Core.Path.{refl}
 use native.Mathlib.Omega.{arith}
 use borrow.Author.Needs.{needs}
 use Rattle.arcs.specs.Lengths.{edge-from}
-use Rattle.arcs.proofs.laws.Adding.{product-small, edge-counted}
+use Rattle.arcs.proofs.laws.Counted.{product-small, edge-counted}
 use Rattle.arcs.proofs.lengths.counted.Statement.{statement}
 use Rattle.arcs.proofs.lengths.counted.Tie as tie
 

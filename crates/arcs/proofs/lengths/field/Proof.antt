@@ -1,7 +1,7 @@
 -- `arcs::lengths::field` meets its contract: the edge is there, or it is not.
 use native.Mathlib.Omega.{arith}
 use borrow.Author.Needs.{needs}
-use Rattle.arcs.proofs.laws.Adding.{field-there, field-missing}
+use Rattle.arcs.proofs.laws.Counted.{field-there, field-missing}
 use Rattle.arcs.proofs.lengths.field.Statement.{statement}
 use Rattle.arcs.proofs.lengths.field.Tie as tie
 

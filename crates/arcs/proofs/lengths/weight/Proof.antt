@@ -1,6 +1,6 @@
 -- `arcs::lengths::weight` meets its contract: the limit is none, below flow 0, or a weight.
 use native.Mathlib.Omega.{arith}
-use Rattle.arcs.proofs.laws.Adding.{weight-none, weight-some}
+use Rattle.arcs.proofs.laws.Counted.{weight-none, weight-some}
 use Rattle.arcs.proofs.lengths.weight.Statement.{statement}
 use Rattle.arcs.proofs.lengths.weight.Tie as tie
 

@@ -29,22 +29,22 @@ part-judge-whole-end-2 c = search needs
 
 judge-whole-requires : tie.Need-judge-whole-requires
 judge-whole-requires c κs =
-    let s = c .before .before .before .before in (
-      s .pre .0,
+    let start = c .before .before .before .before .before in (
+      start .pre .0,
       (
-        omega (arith, front-length (s .args .counts .arcs) (s .args .list .now) (s .pre .1 .0)),
-        front-length (s .args .counts .nodes) (s .args .places .now) (s .pre .1 .1),
+        omega (arith, front-length (start .args .counts .arcs) (start .args .list .now) (start .pre .1 .0)),
+        front-length (start .args .counts .nodes) (start .args .places .now) (start .pre .1 .1),
       ),
     )
 
 returns : tie.Need-returns
 returns c =
-    let s = c .before .before .before .before .before in
+    let start = c .before .before .before .before .before .before in
     c .judge-whole .ensures
     ∙ ap₂
-    (λ (m k : ℕ). table-decision (s .args .arcs .now) (s .args .counts) (take m (s .args .places .now))
-    (take k (s .args .list .now)))
-    (less-none (s .args .counts .nodes)) (less-none (s .args .counts .arcs))
+    (λ (m k : ℕ). table-decision (start .args .arcs .now) (start .args .counts) (take m (start .args .places .now))
+    (take k (start .args .list .now)))
+    (less-none (start .args .counts .nodes)) (less-none (start .args .counts .arcs))
 
 pub judge-spec : {M : Type 1} → statement M
 judge-spec =

@@ -1,11 +1,11 @@
 -- `engine::widths::narrow` meets its contract: what is found at the greatest width is found of the sheet.
 use Prim.Native.Nat.{_+_}
 use native.Mathlib.Omega.{arith}
+use borrow.Author.Needs.{needs}
 use Rattle.sheet.specs.Limits.{max-width}
 use Rattle.engine.specs.MinimumWidth.{narrowing}
-use Rattle.engine.proofs.laws.Fits.{nodes-few, taken}
 use Rattle.engine.proofs.laws.Widths.{holds-at, narrows-held, none-held, lowest-front}
-use borrow.Author.Needs.{needs}
+use Rattle.engine.proofs.laws.Fits.{nodes-few, taken}
 use Rattle.engine.proofs.widths.narrow.Statement.{statement}
 use Rattle.engine.proofs.widths.narrow.Tie as tie
 
@@ -13,7 +13,9 @@ set-width-requires : tie.Need-set-width-requires
 set-width-requires c κs = search needs
 
 add-least : tie.Need-add-least
-add-least c = omega (arith, nodes-few (c .before .before .before .before .before .before .pre))
+add-least c =
+    let start = c .before .before .before .before .before .before .before in
+    omega (arith, nodes-few (start .pre))
 
 slice-aggregate-least : tie.Need-slice-aggregate-least
 slice-aggregate-least c = search needs
@@ -32,14 +34,15 @@ part-narrow-to-start c = search needs
 
 part-narrow-to-end : tie.Need-part-narrow-to-end
 part-narrow-to-end c =
-    let start = c .before .before .before .before .before .before .before .before .before .before .before .before .before in
-    omega (arith, nodes-few (start .pre), c .before .before .before .before .before .least .kept .1 .1 .1 .0)
+    let start = c .before .before .before .before .before .before .before .before .before .before .before .before .before .before in
+    let least = c .before .before .before .before .before .least in
+    omega (arith, nodes-few (start .pre), least .kept .1 .1 .1 .0)
 
 narrow-to-requires : tie.Need-narrow-to-requires
 narrow-to-requires c κs =
-    let start = c .before .before .before .before .before .before .before .before .before .before .before .before .before .before in
-    let set-width = c .before .before .before .before .before .before .before .before .before .before .before .set-width in
     let least = c .before .before .before .before .before .before .least in
+    let set-width = c .before .before .before .before .before .before .before .before .before .before .before .set-width in
+    let start = c .before .before .before .before .before .before .before .before .before .before .before .before .before .before .before in
     let m = rw (c .before .before .before .enum-told .given .1) at (least .ensures) in
     (holds-at max-width (omega arith) (set-width .ensures) (start .pre), lowest-front (start .args .counts .nodes) _ (m .2 .lowest))
 
@@ -60,17 +63,18 @@ same-length c = search needs
 
 returns : tie.Need-returns
 returns c =
-    let set-width = c .before .before .before .before .before .before .before .before .before .before .before .before .before .before .set-width in
-    let narrow-to = c .before .before .narrow-to in
-    narrows-held max-width (omega arith) (set-width .ensures) (narrowing (narrow-to .result)) (narrow-to .ensures)
+    let earlier = c .before .before .before .before .before .before .before .before .before .before .before .before in
+    let set-width = earlier .before .before .set-width in
+    narrows-held max-width (omega arith) (set-width .ensures) (narrowing (c .before .before .narrow-to .result))
+    (c .before .before .narrow-to .ensures)
 
 same-length-2 : tie.Need-same-length-2
 same-length-2 c = search needs
 
 returns-2 : tie.Need-returns-2
 returns-2 c =
-    let set-width = c .before .before .before .before .before .before .before .before .before .set-width in
     let least = c .before .before .before .before .least in
+    let set-width = c .before .before .before .before .before .before .before .before .before .set-width in
     let m = rw (c .before .enum-told2 .given .1) at (least .ensures) in
     none-held (set-width .ensures) (m .3) (c .no-width .ensures)
 
@@ -79,9 +83,9 @@ same-length-3 c = search needs
 
 returns-3 : tie.Need-returns-3
 returns-3 c =
-    let start = c .before .before .before .before .before .before .before .before .before .before .before .before in
-    let set-width = c .before .before .before .before .before .before .before .before .before .set-width in
     let least = c .before .before .before .before .least in
+    let set-width = c .before .before .before .before .before .before .before .before .before .set-width in
+    let start = c .before .before .before .before .before .before .before .before .before .before .before .before .before in
     let m = rw (c .before .enum-told3 .given .1) at (least .ensures) in
     let held = holds-at max-width (omega arith) (set-width .ensures) (start .pre) in
     λ h. absurd

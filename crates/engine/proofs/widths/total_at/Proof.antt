@@ -1,7 +1,7 @@
 -- `engine::widths::total_at` meets its contract: the arcs at the width are drawn in room that is long enough for every sheet.
 use native.Mathlib.Omega.{arith}
-use lib.IntN.{pos}
 use lib.ListN.{replicate}
+use lib.IntN.{pos}
 use borrow.Author.Needs.{needs}
 use Rattle.sheet.specs.Limits.{max-nodes}
 use Rattle.arcs.specs.Limits.{max-arcs}
@@ -21,7 +21,7 @@ slice-aggregate-draw-loaded-2 c = search needs
 
 draw-loaded-requires : tie.Need-draw-loaded-requires
 draw-loaded-requires c κs =
-    let start = c .before .before .before .before .before .before .before .before in
+    let start = c .before .before .before .before .before .before .before .before .before in
     let set-width = c .before .before .before .before .before .set-width in
     holds-at (start .args .width) (start .pre .1) (set-width .ensures) (start .pre .0)
 
@@ -30,12 +30,13 @@ same-length c = search needs
 
 returns : tie.Need-returns
 returns c =
-    let start = c .before .before .before .before .before .before .before .before .before .before .before in
+    let start = c .before .before .before .before .before .before .before .before .before .before .before .before in
     let set-width = c .before .before .before .before .before .before .before .before .set-width in
-    let draw-loaded = c .before .before .draw-loaded in
-    let slices = draw-loaded .last .1 .1 in (
-      total-held (start .args .width) (start .pre .1) (set-width .ensures) (replicate max-nodes 0) (replicate max-arcs (pos 0))
-          (slices .0) (slices .1 .0) (result (draw-loaded .result)) (omega arith) (omega arith) (draw-loaded .ensures),
+    let slices = c .before .before .draw-loaded .last .1 .1 .1 in (
+      total-held (start .args .width) (start .pre .1) (set-width .ensures) (replicate max-nodes 0)
+          (replicate max-arcs (pos 0))
+          (slices .0) (slices .1 .0) (result (c .before .before .draw-loaded .result)) (omega arith) (omega arith)
+          (c .before .before .draw-loaded .ensures),
       set-width .ensures,
     )
 
