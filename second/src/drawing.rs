@@ -123,9 +123,15 @@ pub fn is_drawing(sheet: &Sheet, places: &[u16]) -> bool {
 }
 
 /// The total: the sum of the lengths (document 01: runs) of all edges, parallel ones counted once.
+///
+/// They are added in the order of the sheet, on purpose: document 02's ticket 5 adds layer by layer
+/// from the last one up, and its totals are held against those of another order.
 pub fn total(sheet: &Sheet, places: &[u16]) -> u32 {
-    let length = |&(upper, lower): &(usize, usize)| places[upper].abs_diff(places[lower]);
-    traces(sheet).keys().map(length).map(u32::from).sum()
+    let traces = traces(sheet);
+    let edges = sheet.edges.iter().enumerate();
+    let counted = edges.filter(|(i, edge)| traces[&edge.ends()].first == *i);
+    let length = |(_, edge): (usize, &Edge)| places[edge.upper].abs_diff(places[edge.lower]);
+    counted.map(length).map(u32::from).sum()
 }
 
 /// Every drawing of a tiny sheet, found by trying every list of places.

@@ -1,4 +1,5 @@
-//! Times drawing and checking sheets of growing size, and telling their minimum width, by the library.
+//! Times drawing and checking sheets of growing size and of more and more layers, and telling their
+//! minimum width, by the library.
 
 use std::hint::black_box;
 use std::time::{Duration, Instant};
@@ -13,7 +14,7 @@ use strip_tests::random::Random;
 const SHEETS: usize = 20;
 /// How many times all of them are taken; the shortest time counts.
 const RUNS: usize = 50;
-/// A sheet whose nodes can move a little; the counts are set for each size.
+/// A sheet whose nodes can move a little; the counts are set for each line.
 const TIGHT: Plan = Plan {
     straight: 8,
     ..Plan::FULL_TIGHT
@@ -58,28 +59,38 @@ impl Sample {
     }
 }
 
-/// Prints a line for each size, and one for a sheet without a drawing.
+/// Prints a line for each size, one for each count of layers, and one for a sheet without a drawing.
 fn main() {
     println!("microseconds for a sheet");
     println!("                draw            check           narrowest");
     println!("nodes  edges   tight    wide   tight    wide   tight    wide");
     for nodes in [16, 32, 64, 128, 256] {
         let edges = 2 * nodes;
-        let [tight, wide] = [TIGHT, WIDE].map(|plan| {
-            measure(&Plan {
-                nodes,
-                edges,
-                ..plan
-            })
+        print_times(&format!("{nodes:5}  {edges:5}"), |plan| Plan {
+            nodes,
+            edges,
+            ..plan
         });
-        println!(
-            "{nodes:5}  {edges:5}  {:6.1}  {:6.1}  {:6.1}  {:6.1}  {:6.1}  {:6.1}",
-            tight[0], wide[0], tight[1], wide[1], tight[2], wide[2]
-        );
+    }
+    println!("256 nodes and 512 edges, in any order of the edges");
+    for layers in [4, 8, 16, 32, 64] {
+        print_times(&format!("{layers:5} layers"), |plan| Plan {
+            layers,
+            ..plan
+        });
     }
     let mut spiral = [Sample::new(&spiral(&[1; 64], 1))];
     let refused = shortest(&mut spiral, |sample| !sample.draw());
     println!("a spiral of 192 nodes and 126 edges without a drawing is refused in {refused:.1}");
+}
+
+/// Prints a line of times, for tight and for wide sheets with these counts.
+fn print_times(counts: &str, with_counts: impl Fn(Plan) -> Plan) {
+    let [tight, wide] = [TIGHT, WIDE].map(|plan| measure(&with_counts(plan)));
+    println!(
+        "{counts}  {:6.1}  {:6.1}  {:6.1}  {:6.1}  {:6.1}  {:6.1}",
+        tight[0], wide[0], tight[1], wide[1], tight[2], wide[2]
+    );
 }
 
 /// The microseconds for drawing, for checking and for the minimum width of a sheet of a plan.

@@ -2,6 +2,7 @@
 
 pub mod conflicts;
 pub mod exhaustive;
+pub mod orders;
 pub mod parallel;
 pub mod realistic;
 pub mod sizes;

@@ -3,6 +3,7 @@
 use crate::random::Random;
 use second::drawing::Sheet;
 use second::network::arcs;
+use second::solver::solve;
 
 /// The list cut off before each of its elements.
 pub fn truncated<T: Clone>(list: &[T]) -> Vec<Vec<T>> {
@@ -96,6 +97,15 @@ pub fn place_changes(place: u16) -> Vec<u16> {
     let left = place.checked_sub(1);
     let right = place.checked_add(1);
     left.into_iter().chain(right).collect()
+}
+
+/// The places of the drawing in which every node stands as far left as it can, however long the edges
+/// are then, if the sheet has a drawing.
+pub fn lowest(sheet: &Sheet) -> Option<Vec<u16>> {
+    // without edges to be short, what is leftmost is leftmost of all
+    let mut loose = sheet.clone();
+    loose.edges.retain(|edge| edge.straight);
+    Some(solve(&loose)?.places)
 }
 
 /// The index of a layer's first push in a pull list; the others of the layer follow it.

@@ -1,6 +1,7 @@
 //! The comparison itself: it finds each fault that a library is given, and none where there is none.
 
 mod rules;
+mod sums;
 mod wrong;
 
 use std::panic::{catch_unwind, AssertUnwindSafe};
@@ -20,7 +21,9 @@ use strip_tests::families::parallel;
 use strip_tests::families::turned::mirrored;
 use strip_tests::files::{self, Rows};
 use strip_tests::generate;
+use strip_tests::mutation::lowest;
 use strip_tests::random::Random;
+use sums::{Mistake, MISTAKES};
 use wrong::{Traces, Wrong, WAYS};
 
 /// What is wrong with a library.
@@ -59,6 +62,12 @@ enum Fault {
     CheckTraces(Wrong),
     /// The total in the minimum width goes by wrong traces.
     NarrowestTraces(Wrong),
+    /// The engine adds the total with a mistake.
+    DrawSum(Mistake),
+    /// The checker adds the total with a mistake.
+    CheckSum(Mistake),
+    /// The total in the minimum width is added with a mistake.
+    NarrowestSum(Mistake),
     /// The reader of coordinate files breaks a rule.
     ReadFile(Rule),
     /// The writer of coordinate files breaks a rule.
@@ -101,6 +110,9 @@ fn faults() -> Vec<Fault> {
     faults.extend(WAYS.map(Fault::DrawTraces));
     faults.extend(WAYS.map(Fault::CheckTraces));
     faults.push(Fault::NarrowestTraces(Wrong::EveryEdge));
+    faults.extend(MISTAKES.map(Fault::DrawSum));
+    faults.extend(MISTAKES.map(Fault::CheckSum));
+    faults.extend(MISTAKES.map(Fault::NarrowestSum));
     faults.extend(READER.map(Fault::ReadFile));
     faults.extend(WRITER.map(Fault::WriteFile));
     faults
@@ -160,6 +172,7 @@ impl Library for Faulty {
         let (place_count, list_length) = needed(sheet);
         match self.0 {
             Fault::DrawTotal => return Ok(total + 1),
+            Fault::DrawSum(mistake) => return Ok(mistake.total(&own(sheet), places)),
             Fault::DrawRightmost if sheet == loose().as_slice() => {
                 places[..place_count]
                     .iter_mut()
@@ -190,6 +203,7 @@ impl Library for Faulty {
                 let drawn = engine::draw(sheet, &mut best, &mut vec![0; list.len()]);
                 drawn.map_or(Ok(false), |_| checker::check(sheet, &best, list))
             }
+            (Fault::CheckSum(mistake), Ok(_)) => Ok(mistake.check(&own(sheet), places, list)),
             (Fault::CheckWraps, Ok(_)) => {
                 let wrapped: Vec<i32> = list.iter().map(|n| n << 1 >> 1).collect();
                 checker::check(sheet, places, &wrapped)
@@ -221,6 +235,13 @@ impl Library for Faulty {
             // the total in the sheet's own width
             (Fault::NarrowestWider, Ok(minimum)) => Ok(Minimum {
                 total: total_of(&own(sheet)).unwrap_or(minimum.total),
+                ..minimum
+            }),
+            (Fault::NarrowestSum(mistake), Ok(minimum)) => Ok(Minimum {
+                total: mistake.least_total(&Sheet {
+                    width: minimum.width,
+                    ..own(sheet)
+                }),
                 ..minimum
             }),
             (Fault::NarrowestNumber, Err(Refusal { number: 10, .. })) => {
@@ -267,10 +288,7 @@ fn lowest_total(bytes: &[u8], width: u16) -> u32 {
         width,
         ..own(bytes)
     };
-    // without edges to be short, what is leftmost is leftmost of all
-    let mut loose = sheet.clone();
-    loose.edges.retain(|edge| edge.straight);
-    let places = solve(&loose).expect("the width is enough").places;
+    let places = lowest(&sheet).expect("the width is enough");
     total(&sheet, &places)
 }
 

@@ -10,7 +10,7 @@ use strip_tests::damage::DAMAGES;
 use strip_tests::draft::Draft;
 use strip_tests::families::conflicts::{crossed, held};
 use strip_tests::families::turned::{mirrored, upside_down};
-use strip_tests::families::{exhaustive, parallel, realistic, sizes, widths};
+use strip_tests::families::{exhaustive, orders, parallel, realistic, sizes, widths};
 use strip_tests::random::Random;
 
 /// The sheet of a draft, which must be good.
@@ -114,6 +114,50 @@ fn the_only_straight_edge_is_a_later_one() {
         assert_eq!(straight.len(), 1);
         let ends = sheet.edges[straight[0]].ends();
         assert!(traces(&sheet)[&ends].first < straight[0]);
+    }
+}
+
+/// The layers of a draft's edges, in the order of the sheet.
+fn edge_layers(draft: &Draft) -> Vec<u16> {
+    good(draft);
+    draft.edges.iter().map(|edge| edge.layer).collect()
+}
+
+#[test]
+fn orders_of_edges_have_each_edge_once_and_differ() {
+    let mut random = Random::new(61);
+    let draft = sizes::full(&mut random, 16);
+    let own: Vec<usize> = (0..512).collect();
+    let orders = orders::orders(&mut random, &draft);
+    let different: HashSet<&Vec<usize>> = orders.iter().chain([&own]).collect();
+    assert_eq!((orders.len(), different.len()), (6, 7));
+    for order in &orders {
+        let mut sorted = order.clone();
+        sorted.sort();
+        assert_eq!(sorted, own);
+    }
+    let [reversed, top_first, bottom_first] =
+        [0, 1, 2].map(|i| edge_layers(&orders::in_order(&draft, &orders[i])));
+    assert!(edge_layers(&draft).into_iter().rev().eq(reversed));
+    assert!(top_first.is_sorted());
+    assert!(bottom_first.into_iter().rev().is_sorted());
+}
+
+#[test]
+fn edges_are_in_the_layers_they_are_meant_to_be_in() {
+    let mut random = Random::new(62);
+    for layers in [2, 3, 16, 64] {
+        let each: Vec<u16> = (1..layers).collect();
+        assert_eq!(edge_layers(&orders::turns(layers)), each);
+        assert_eq!(edge_layers(&orders::chain(layers)), each);
+        let mut found = edge_layers(&orders::one_in_each_pair(&mut random, layers));
+        found.sort();
+        assert_eq!(found, each);
+        for upper_layer in [1, layers - 1] {
+            let draft = orders::in_one_pair(&mut random, layers, upper_layer);
+            assert_eq!(edge_layers(&draft), [upper_layer; 512]);
+            assert!(different_ends(&draft.sheet()).len() > 400);
+        }
     }
 }
 
