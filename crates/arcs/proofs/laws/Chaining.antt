@@ -101,7 +101,7 @@ module _ (n : ℕ) (s : List ℕ) where
   abbrev lies : ℕ → Bool
   lies i = ltb (lower-of s i) n
 
-  -- the two tests
+  -- the test of the count
   abbrev few : Bool
   few = leb (length s / stride) max-edges
 
@@ -109,9 +109,9 @@ module _ (n : ℕ) (s : List ℕ) where
   pub too-many : max-edges < length s / stride → false ≡ chainable n s
   too-many h = rw (lt-leb (length s / stride) max-edges h) refl
 
-  -- a lower end that no sheet has
-  pub too-low : {i : ℕ} → i < length s / stride → n ≤ lower-of s i → false ≡ chainable n s
-  too-low {i} h k =
+  -- a lower end that is none of the n nodes
+  pub no-node : {i : ℕ} → i < length s / stride → n ≤ lower-of s i → false ≡ chainable n s
+  no-node {i} h k =
       sym
       (is-false (chainable n s)
       (fails (chainable n s)

@@ -6,7 +6,7 @@ use lib.ListN.{length, getD}
 use borrow.Author.Needs.{needs}
 use Rattle.network.specs.Packed.{stride}
 use Rattle.arcs.specs.inside.Chains.{Chained}
-use Rattle.arcs.proofs.laws.Chaining.{chained-begin, chained-next, too-many, too-low, all-chained, not-chained}
+use Rattle.arcs.proofs.laws.Chaining.{chained-begin, chained-next, too-many, no-node, all-chained, not-chained}
 use Rattle.arcs.proofs.chains.chain.Statement.{statement}
 use Rattle.arcs.proofs.chains.chain.Tie as tie
 
@@ -41,7 +41,7 @@ returns-2 c =
     let start = c .before .before .before .before .before .before .before .before in
     let loop = c .before .before .before .loop in
     let edge-lower = c .before .edge-lower in
-    let none = too-low (length (start .args .starts .now)) (start .args .edges .now) {i = loop .i} (omega arith) (omega (arith, edge-lower .ensures)) in
+    let none = no-node (length (start .args .starts .now)) (start .args .edges .now) {i = loop .i} (omega arith) (omega (arith, edge-lower .ensures)) in
     (none, not-chained (length (start .args .starts .now)) (start .args .edges .now) none)
 
 number-requires : tie.Need-number-requires Inv-loop μ-loop
