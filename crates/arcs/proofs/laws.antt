@@ -11,10 +11,5 @@ pub mod Taking
 pub mod FirstNodes
 pub mod Fill
 pub mod Load
-pub mod Counted
-pub mod Adding
-pub mod Starts
-pub mod Chaining
-pub mod Walking
-pub mod LayerSums
+pub mod Ends
 pub mod Widening

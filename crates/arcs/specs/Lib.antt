@@ -1,8 +1,7 @@
 pub mod Limits
 pub mod Words
 pub mod Loading
-pub mod Lengths
-pub mod RunningSums
+pub mod Ends
 pub mod Widths
 pub mod inside
 pub mod laws

@@ -1,4 +1,3 @@
 pub mod Pieces
 pub mod Traces
 pub mod Plans
-pub mod Chains

@@ -2,8 +2,5 @@ pub mod LayerFirsts
 pub mod Fitting
 pub mod Loaded
 pub mod PackedEdges
-pub mod LowerEnds
 pub mod HeldArcs
-pub mod SheetLengths
-pub mod HeldSums
 pub mod Widened

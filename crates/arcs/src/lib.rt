@@ -1,16 +1,13 @@
 // The first nodes of a sheet's layers and the arcs of its network, loaded into lent slices, the arcs in the packed layout, at any
-// width; the ends and weights of packed edges, and their total.
-mod chains;
+// width; the ends and weights of packed edges.
 mod edges;
+mod ends;
 mod fill;
 mod layers;
-mod lengths;
 pub mod limits;
 mod numbers;
 mod pack;
 mod planning;
-mod starts;
-mod sums;
 mod traces;
 mod widths;
 
@@ -18,16 +15,15 @@ use crate::fill::fill;
 use crate::limits::MAX_FIRSTS;
 use crate::planning::plan;
 use crate::planning::put_firsts;
+pub use ends::edge_lower;
+pub use ends::edge_upper;
+pub use ends::edge_weight;
+pub use ends::place;
 use leb128::Answer;
 use leb128::Refusal;
 use leb128::refusals::SLICE_SHORT;
-pub use lengths::edge_lower;
-pub use lengths::edge_upper;
-pub use lengths::edge_weight;
-pub use lengths::place;
 use network::layout::STRIDE;
 use sheet::limits::MAX_NUMBERS;
-pub use sums::total;
 pub use widths::set_width;
 ghost use mathlib.Core.Path.{_≡_};
 ghost use lib.ListN.{length};

@@ -1,10 +1,10 @@
 -- The numbers of a list, seen from an index on.
-use Prim.Native.Nat.{ℕ, zero, suc, _+_, _-_, _<_}
-use mathlib.Core.Path.{_≡_, refl, sym, _∙_, ap}
-use mathlib.Core.List.{List, [], _∷_}
+use Prim.Native.Nat.{ℕ, suc, _+_, _-_}
+use mathlib.Core.Path.{_≡_, sym, _∙_, ap}
+use mathlib.Core.List.{List}
 use native.Mathlib.Nat.{add-zero}
 use native.Mathlib.Omega.{arith}
-use lib.ListN.{length, getD, drop}
+use lib.ListN.{getD, drop}
 use lib.Seq.{getD-drop}
 
 -- one less than a successor
@@ -18,9 +18,3 @@ number-behind at i s = sym (getD-drop at s i 0)
 -- the number at an index
 pub number-here : (at : ℕ) (s : List ℕ) → getD s at 0 ≡ getD (drop at s) 0 0
 number-here at s = sym (getD-drop at s 0 0 ∙ ap (λ (i : ℕ). getD s i 0) (add-zero at))
-
--- a number that is there, whatever stands for one that is not
-pub any-default : (l : List ℕ) (i d e : ℕ) → i < length l → getD l i d ≡ getD l i e
-any-default [] i d e h = absurd (omega arith)
-any-default (x ∷ l) zero d e h = refl
-any-default (x ∷ l) (suc i) d e h = any-default l i d e (omega arith)

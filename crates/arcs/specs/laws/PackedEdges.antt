@@ -13,7 +13,7 @@ use Rattle.drawing.specs.Sheet.{Edge}
 use Rattle.drawing.specs.Arcs.{edge-arc-between, edge-arc}
 use Rattle.drawing.specs.laws.Carriers.{At}
 use Rattle.drawing.specs.laws.Carriers.At.{here, later}
-use Rattle.arcs.specs.Lengths.{edge-from, upper-at, lower-at, weight-of, weight-at}
+use Rattle.arcs.specs.Ends.{edge-from, upper-at, lower-at, weight-of, weight-at}
 
 -- the packed edge in front of s is that of e
 pub record Packs (s : List ℕ) (e : Edge) : Type 0 where

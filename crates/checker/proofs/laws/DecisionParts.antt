@@ -19,8 +19,8 @@ use Rattle.drawing.specs.Sheet.{sheet-of}
 use Rattle.drawing.specs.Drawing.{Drawing}
 use Rattle.drawing.specs.laws.SameDrawings.{feasible-drawing, same-total}
 use Rattle.arcs.specs.Words.{u32-most}
-use Rattle.arcs.specs.Lengths.{lengths-of}
-use Rattle.arcs.specs.laws.SheetLengths.{drawing-total}
+use Rattle.totals.specs.Lengths.{lengths-of}
+use Rattle.totals.specs.laws.SheetLengths.{drawing-total}
 use Rattle.arcs.specs.declared.Counts.{Counts}
 use Rattle.arcs.specs.laws.HeldArcs.{Holds, proper, network-is, edges-front}
 use Rattle.checker.specs.inside.Table.{table-decision}

@@ -21,7 +21,7 @@ use Rattle.leftmost.specs.Solutions.{Taken, SomeFeasible, finding, Means}
 use Rattle.leftmost.specs.declared.Answer.the-variants.{Solved, NoSolution, Malformed}
 use Rattle.leftmost.specs.declared.Answer as leftmost
 use Rattle.arcs.specs.Words.{u32-most}
-use Rattle.arcs.specs.Lengths.{lengths-of}
+use Rattle.totals.specs.Lengths.{lengths-of}
 use Rattle.arcs.specs.declared.Counts.{Counts}
 use Rattle.arcs.specs.laws.Loaded.{LoadedSheet}
 use Rattle.arcs.specs.laws.HeldArcs.{Holds, size-is, loaded-holds, holds-reads}

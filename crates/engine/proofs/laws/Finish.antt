@@ -31,8 +31,8 @@ use Rattle.circulation.specs.Nodes.{node-stride, potential-zero, potentials}
 use Rattle.circulation.specs.Solutions.{flows-of, potentials-of}
 use Rattle.circulation.specs.laws.Columns.{column-at}
 use Rattle.arcs.specs.Words.{u32-most}
-use Rattle.arcs.specs.Lengths.{lengths-of}
-use Rattle.arcs.specs.laws.SheetLengths.{drawing-total}
+use Rattle.totals.specs.Lengths.{lengths-of}
+use Rattle.totals.specs.laws.SheetLengths.{drawing-total}
 use Rattle.arcs.specs.declared.Counts.{Counts}
 use Rattle.arcs.specs.laws.HeldArcs.{Holds, proper, size-is, edges-front}
 use Rattle.checker.proofs.laws.DecisionParts.{less-none}

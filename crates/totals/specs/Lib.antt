@@ -1,0 +1,4 @@
+pub mod Lengths
+pub mod RunningSums
+pub mod inside
+pub mod laws

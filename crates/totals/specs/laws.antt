@@ -1,0 +1,3 @@
+pub mod LowerEnds
+pub mod SheetLengths
+pub mod HeldSums

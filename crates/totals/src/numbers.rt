@@ -1,0 +1,19 @@
+// The numbers of a slice.
+ghost use Prim.Native.Nat.{_<_};
+ghost use lib.ListN.{length, getD};
+ghost use Rattle.arcs.specs.Words.{Small};
+
+// The number at an index.
+pub fn number(numbers: &[u16], at: usize) -> usize
+    requires { ⌜ at < length (now numbers) ⌝ }
+    ensures { λ r. ⌜ Small r (getD (now (numbers .entry)) at 0) ⌝ }
+{
+    wide(numbers[at])
+}
+
+// A number of 16 bits.
+fn wide(x: u16) -> usize
+    ensures { λ r. ⌜ Small r x ⌝ }
+{
+    x as usize
+}
