@@ -67,28 +67,26 @@ fn raise_head(arcs: &[u32], count: usize, i: usize, values: &mut [u32]) -> Found
     relax(values, t, h, k, KINK_ZERO)
 }
 
-// What two steps found together.
+// What two steps found together, where the first is not stuck.
 pub fn both(first: Found, second: Found) -> Found
     ensures { λ r. ⌜ r ≡ join first second ⌝ }
 {
-    match first {
+    match second {
+        Found::Same => first,
+        Found::Changed => Found::Changed,
         Found::Stuck => Found::Stuck,
-        Found::Same => second,
-        Found::Changed => match second {
-            Found::Stuck => Found::Stuck,
-            Found::Same => Found::Changed,
-            Found::Changed => Found::Changed,
-        },
     }
 }
 
-// Both constraints of arc i.
+// Both constraints of arc i; the first ends it where it is stuck.
 pub fn raise_arc(arcs: &[u32], count: usize, i: usize, values: &mut [u32]) -> Found
     requires { ⌜ Ready (net (now arcs) count) (now values) ⌝ }
     requires { ⌜ i < count ⌝ }
     ensures { λ r. ⌜ Stepped (Met (net (now (arcs .entry)) count) i) (net (now (arcs .entry)) count) (now (values .entry)) (now (values .exit)) r ⌝ }
 {
     let first = raise_tail(arcs, count, i, values);
-    let second = raise_head(arcs, count, i, values);
-    both(first, second)
+    if let Found::Stuck = first {
+        return Found::Stuck;
+    }
+    both(first, raise_head(arcs, count, i, values))
 }

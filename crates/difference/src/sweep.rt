@@ -3,23 +3,44 @@ use crate::Found;
 use crate::raise::both;
 use crate::raise::raise_arc;
 use network::clear;
-ghost use mathlib.Core.Path.{_≡_};
-ghost use Prim.Native.Nat.{_<_};
 ghost use lib.ListN.{length};
 ghost use Rattle.network.specs.Net.{net};
 ghost use Rattle.network.specs.WellFormed.{WellFormed};
 ghost use Rattle.difference.specs.inside.Constraints.{AllMet, Ready};
-ghost use Rattle.difference.specs.inside.Steps.{Stepped, turn, Swept, Ran};
+ghost use Rattle.difference.specs.inside.Steps.{Stepped, Swept, Ran};
 
-// The arc that a pass comes to after i others.
-fn turned(count: usize, i: usize, back: bool) -> usize
-    requires { ⌜ i < count ⌝ }
-    ensures { λ r. ⌜ (r ≡ turn count i back) × (r < count) ⌝ }
+// One pass over the arcs, from the first on; an arc that is stuck ends it.
+fn forward(arcs: &[u32], count: usize, values: &mut [u32]) -> Found
+    requires { ⌜ Ready (net (now arcs) count) (now values) ⌝ }
+    ensures { λ r. ⌜ Stepped (AllMet (net (now (arcs .entry)) count)) (net (now (arcs .entry)) count) (now (values .entry)) (now (values .exit)) r ⌝ }
 {
-    if back {
-        return count - 1 - i;
+    let mut found = Found::Same;
+    let mut i = 0;
+    while i < count {
+        found = both(found, raise_arc(arcs, count, i, values));
+        if let Found::Stuck = found {
+            return Found::Stuck;
+        }
+        i += 1;
     }
-    i
+    found
+}
+
+// The same, from the last arc back.
+fn backward(arcs: &[u32], count: usize, values: &mut [u32]) -> Found
+    requires { ⌜ Ready (net (now arcs) count) (now values) ⌝ }
+    ensures { λ r. ⌜ Stepped (AllMet (net (now (arcs .entry)) count)) (net (now (arcs .entry)) count) (now (values .entry)) (now (values .exit)) r ⌝ }
+{
+    let mut found = Found::Same;
+    let mut i = count;
+    while i > 0 {
+        i -= 1;
+        found = both(found, raise_arc(arcs, count, i, values));
+        if let Found::Stuck = found {
+            return Found::Stuck;
+        }
+    }
+    found
 }
 
 // One pass over the arcs, forward or back.
@@ -27,15 +48,10 @@ fn pass(arcs: &[u32], count: usize, back: bool, values: &mut [u32]) -> Found
     requires { ⌜ Ready (net (now arcs) count) (now values) ⌝ }
     ensures { λ r. ⌜ Stepped (AllMet (net (now (arcs .entry)) count)) (net (now (arcs .entry)) count) (now (values .entry)) (now (values .exit)) r ⌝ }
 {
-    let mut found = Found::Same;
-    let mut i = 0;
-    while i < count {
-        let arc = turned(count, i, back);
-        let step = raise_arc(arcs, count, arc, values);
-        found = both(found, step);
-        i += 1;
+    if back {
+        return backward(arcs, count, values);
     }
-    found
+    forward(arcs, count, values)
 }
 
 // The least solution in values, and whether there is one; where there is none every value is 0.

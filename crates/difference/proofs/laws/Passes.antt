@@ -1,16 +1,16 @@
 -- The constraints of one arc, and of all arcs in one pass: each arc takes `Passing` one further, in whichever direction.
 use Rattle.network.specs.Net.{at, Net, arcs, tail, head, kink, HardHigh, HardLow}
 use Rattle.difference.specs.inside.Constraints.{MetHigh, MetLow, Met, AllMet, Ready, Relaxing}
-use Rattle.difference.specs.inside.Steps.{RelaxMeans, Stepped, join, turn}
+use Rattle.difference.specs.inside.Steps.{RelaxMeans, Stepped, join}
 use Rattle.difference.specs.declared.Found.{Found}
-use mathlib.Core.Path.{_≡_, subst}
-use mathlib.Core.Bool.{Bool, true, false}
+use mathlib.Core.Path.{_≡_, refl}
+use mathlib.Core.Logic.{inl}
 use mathlib.Core.List.{List}
-use Prim.Native.Nat.{ℕ, _+_, _-_, _≤_, _<_}
+use Prim.Native.Nat.{ℕ, _≤_, _<_}
 use native.Mathlib.Omega.{arith}
-use borrow.Author.Count.{below-none, below-more}
-use Rattle.difference.specs.declared.Found.the-variants.{Same}
-use Rattle.difference.proofs.laws.Steps.{Monotone, relaxed, nothing, stepped-map, joined}
+use native.Mathlib.Decide.{ℕ-discrete}
+use Rattle.difference.specs.declared.Found.the-variants.{Same, Stuck}
+use Rattle.difference.proofs.laws.Steps.{Monotone, relaxed, nothing, stepped-map, stuck-any, not-stuck, joined}
 use Rattle.network.specs.Packed.{kink-zero}
 
 module _ {N : Net} {v : List ℕ} {i : ℕ} (r : Ready N v) (l : i < arcs N) (t h k : ℕ) (et : t ≡ tail N i) (eh : h ≡ head N i) (ek : k ≡ kink N i) where
@@ -61,48 +61,46 @@ met-mono : (N : Net) (i : ℕ) → Monotone (Met N i)
 met-mono N i = record { mono = λ less more m. (high-mono N i .mono less more (m .0), low-mono N i .mono less more (m .1)) }
 
 -- both constraints of an arc
-pub arc-raised : {N : Net} (i : ℕ) {v₀ v₁ v₂ : List ℕ} (r₁ r₂ r : Found) → Stepped (MetHigh N i) N v₀ v₁ r₁
+pub arc-raised : {N : Net} (i : ℕ) {v₀ v₁ v₂ : List ℕ} (r₁ r₂ r : Found) → (r₁ ≡ Stuck → ⊥) → Stepped (MetHigh N i) N v₀ v₁ r₁
     → Stepped (MetLow N i) N v₁ v₂ r₂ → r ≡ join r₁ r₂ → Stepped (Met N i) N v₀ v₂ r
-arc-raised {N} i r₁ r₂ r s t e = rw e (joined (high-mono N i) (low-mono N i) r₁ r₂ s t)
+arc-raised {N} i r₁ r₂ r goes s t e = rw e (joined (high-mono N i) (low-mono N i) r₁ r₂ goes s t)
 
--- the constraints of the first i arcs that a pass comes to
-abbrev pub Done : Net → Bool → ℕ → (ℕ → ℕ) → (ℕ → ℕ) → Type 0
-Done N back i f g = (j : ℕ) → j < i → Met N (turn (arcs N) j back) f g
+-- the constraints of the arcs from a on, before b
+abbrev pub Done : Net → ℕ → ℕ → (ℕ → ℕ) → (ℕ → ℕ) → Type 0
+Done N a b f g = (j : ℕ) → a ≤ j → j < b → Met N j f g
 
--- in a pass over v₀, before the arc that comes after i others
-pub record Passing (N : Net) (back : Bool) (v₀ v : List ℕ) (found : Found) (i : ℕ) : Type 0 where
-  pub in-list : i ≤ arcs N
-  pub stepped : Stepped (Done N back i) N v₀ v found
+-- in a pass over v₀ that is not stuck: the arcs from a on and before b are done
+pub record Passing (N : Net) (a b : ℕ) (v₀ v : List ℕ) (found : Found) : Type 0 where
+  pub stepped : Stepped (Done N a b) N v₀ v found
+  pub goes : found ≡ Stuck → ⊥
 
 -- and of all arcs so far
-done-mono : (N : Net) (back : Bool) (i : ℕ) → Monotone (Done N back i)
-done-mono N back i = record { mono = λ less more m j j-in. met-mono N (turn (arcs N) j back) .mono less more (m j j-in) }
+done-mono : (N : Net) (a b : ℕ) → Monotone (Done N a b)
+done-mono N a b = record { mono = λ less more m j from to. met-mono N j .mono less more (m j from to) }
 
 -- before the first arc
-pub start : {N : Net} (back : Bool) {v₀ : List ℕ} → Ready N v₀ → Passing N back v₀ v₀ Same 0
-start back r = record { in-list = omega arith; stepped = nothing r (below-none _) }
+pub start : {N : Net} {v₀ : List ℕ} → Ready N v₀ → (a : ℕ) → Passing N a a v₀ v₀ Same
+start r a = record { stepped = nothing r (λ j from to. absurd (omega arith)); goes = not-stuck Same (inl refl) }
 
--- one arc more
-pub goes-on : {N : Net} {back : Bool} {v₀ v : List ℕ} {found : Found} {i : ℕ} → Passing N back v₀ v found i → i < arcs N → (arc : ℕ) → arc ≡ turn (arcs N) i back
-    → (v′ : List ℕ) (step found′ : Found) → Stepped (Met N arc) N v v′ step → found′ ≡ join found step → Passing N back v₀ v′ found′ (i + 1)
-goes-on {N} {back} {v₀} {v} {found} {i} p l arc ea v′ step found′ s ef = record {
-  in-list = omega arith;
-  stepped =
-      rw ef
-      (stepped-map (λ m. below-more _ i (m .0) (m .1)) (join found step)
-      (joined (done-mono N back i) (met-mono N (turn (arcs N) i back)) found step (p .stepped) (rw ea at s)));
-}
+module _ {N : Net} {a b : ℕ} {v₀ v v′ : List ℕ} {found step found′ : Found} (p : Passing N a b v₀ v found) (arc : ℕ) (s : Stepped (Met N arc) N v v′ step) (e : found′ ≡ join found step) where
+  -- one arc more
+  arc-more : Stepped (λ f g. Done N a b f g × Met N arc f g) N v₀ v′ found′
+  arc-more = rw e (joined (done-mono N a b) (met-mono N arc) found step (p .goes) (p .stepped) s)
 
--- every arc has its turn
-turn-back : (N : Net) (back : Bool) (f g : ℕ → ℕ) → Done N back (arcs N) f g → AllMet N f g
-turn-back N true f g d i l =
-    let e : arcs N - 1 - (arcs N - 1 - i) ≡ i = omega arith in
-    subst (λ (k : ℕ). Met N k f g) e (d (arcs N - 1 - i) (omega arith))
-turn-back N false f g d i l = d i l
+  -- the pass is stuck there
+  pub stops : found′ ≡ Stuck → Stepped (AllMet N) N v₀ v′ Stuck
+  stops = stuck-any arc-more
+
+  -- or it goes on: that arc is done, and the others were
+  pub goes-on : {a′ b′ : ℕ} → (found′ ≡ Stuck → ⊥) → ((j : ℕ) → a′ ≤ j → j < b′ → (j ≡ arc → ⊥) → (a ≤ j) × (j < b)) → Passing N a′ b′ v₀ v′ found′
+  goes-on goes others = record {
+    stepped =
+        stepped-map
+        (λ m j from to. elim (ℕ-discrete j arc) [ yes same ↦ rw same (m .1) | no other ↦ m .0 j (others j from to other .0) (others j from to other .1) ])
+        found′ arc-more;
+    goes = goes;
+  }
 
 -- after the last arc
-pub whole : {N : Net} {back : Bool} {v₀ v : List ℕ} {found : Found} {i : ℕ} → Passing N back v₀ v found i → arcs N ≤ i
-    → Stepped (AllMet N) N v₀ v found
-whole {N} {back} {v₀} {v} {found} {i} p past =
-    let e : i ≡ arcs N = omega (arith, p .in-list) in
-    stepped-map (turn-back N back (at v₀) (at v)) found (subst (λ (k : ℕ). Stepped (Done N back k) N v₀ v found) e (p .stepped))
+pub whole : {N : Net} {a b : ℕ} {v₀ v : List ℕ} {found : Found} → Passing N a b v₀ v found → a ≤ 0 → arcs N ≤ b → Stepped (AllMet N) N v₀ v found
+whole {N} {a} {b} {v₀} {v} {found} p first last = stepped-map (λ m j l. m j (omega arith) (omega arith)) found (p .stepped)

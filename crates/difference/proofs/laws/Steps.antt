@@ -15,6 +15,8 @@ use native.Mathlib.Omega.{arith}
 use lib.ListN.{length, set, length-set}
 use lib.Seq.{getD-set-same}
 use Rattle.difference.specs.declared.Found.the-variants.{Same, Changed, Stuck}
+use denote.Enum.Declared.{tagOf}
+use Rattle.difference.proofs.Found.{the-type}
 use Rattle.difference.proofs.laws.Bounds.{bounded}
 use Rattle.difference.specs.Limits.{value-limit}
 
@@ -91,6 +93,14 @@ stepped-map f Same s = record { risen = s .risen; told = (s .told .0, f (s .told
 stepped-map f Changed s = record { risen = s .risen; told = (s .told .0, f (s .told .1)) }
 stepped-map f Stuck s = record { risen = s .risen; told = s .told }
 
+-- a stuck step over any other constraints
+pub stuck-any : {M M′ : (ℕ → ℕ) → (ℕ → ℕ) → Type 0} {N : Net} {v₀ v : List ℕ} {r : Found} → Stepped M N v₀ v r → r ≡ Stuck → Stepped M′ N v₀ v Stuck
+stuck-any s e = record { risen = s .risen; told = rw e at (s .told) }
+
+-- a step of the first two kinds is not stuck
+pub not-stuck : (r : Found) → (tagOf the-type r ≡ 0) ⊎ (tagOf the-type r ≡ 1) → r ≡ Stuck → ⊥
+not-stuck r first-two e = ⊎-elim (λ t. omega arith) (λ t. omega arith) (rw e at first-two)
+
 -- a value that rose in the second step
 grew-before : {N : Net} {v₀ v₁ v₂ : List ℕ} → Risen N v₀ v₁ → Grew v₁ v₂ → Grew v₀ v₂
 grew-before s g = record { node = g .node; node-in = omega (arith, g .node-in, s .size); rose = omega (arith, g .rose, s .up (g .node)) }
@@ -100,10 +110,10 @@ grew-after : {N : Net} {v₀ v₁ v₂ : List ℕ} → Grew v₀ v₁ → Risen 
 grew-after g t = record { node = g .node; node-in = g .node-in; rose = omega (arith, g .rose, t .up (g .node)) }
 
 module _ {M M′ : (ℕ → ℕ) → (ℕ → ℕ) → Type 0} {N : Net} {v₀ v₁ v₂ : List ℕ} (m : Monotone M) (m′ : Monotone M′) where
-  -- what two steps tell together
-  pub joined : (r₁ r₂ : Found) → Stepped M N v₀ v₁ r₁ → Stepped M′ N v₁ v₂ r₂
+  -- what two steps tell together, where the first is not stuck
+  pub joined : (r₁ r₂ : Found) → (r₁ ≡ Stuck → ⊥) → Stepped M N v₀ v₁ r₁ → Stepped M′ N v₁ v₂ r₂
       → Stepped (λ f g. M f g × M′ f g) N v₀ v₂ (join r₁ r₂)
-  joined r₁ r₂ s t = record { risen = risen-trans (s .risen) (t .risen); told = tells r₁ r₂ (s .told) (t .told) }
+  joined r₁ r₂ goes s t = record { risen = risen-trans (s .risen) (t .risen); told = tells r₁ r₂ goes (s .told) (t .told) }
     where
       later : M (at v₀) (at v₁) → M (at v₀) (at v₂)
       later = m .mono (λ u. le-refl _) (t .risen .up)
@@ -111,14 +121,11 @@ module _ {M M′ : (ℕ → ℕ) → (ℕ → ℕ) → Type 0} {N : Net} {v₀ v
       earlier : M′ (at v₁) (at v₂) → M′ (at v₀) (at v₂)
       earlier = m′ .mono (s .risen .up) (λ u. le-refl _)
 
-      before : None N (length v₁) → None N (length v₀)
-      before none = rw (← s .risen .size) none
-
-      tells : (r₁ r₂ : Found) → Told M N v₀ v₁ r₁ → Told M′ N v₁ v₂ r₂ → Told (λ f g. M f g × M′ f g) N v₀ v₂ (join r₁ r₂)
-      tells Stuck r₂ a b = a
-      tells Same Stuck a b = before b
-      tells Same Same a b = (b .0 ∙ a .0, (later (a .1), earlier (b .1)))
-      tells Same Changed a b = (grew-before (s .risen) (b .0), (later (a .1), earlier (b .1)))
-      tells Changed Stuck a b = before b
-      tells Changed Same a b = (grew-after (a .0) (t .risen), (later (a .1), earlier (b .1)))
-      tells Changed Changed a b = (grew-after (a .0) (t .risen), (later (a .1), earlier (b .1)))
+      tells : (r₁ r₂ : Found) → (r₁ ≡ Stuck → ⊥) → Told M N v₀ v₁ r₁ → Told M′ N v₁ v₂ r₂ → Told (λ f g. M f g × M′ f g) N v₀ v₂ (join r₁ r₂)
+      tells r₁ Stuck goes a b = rw (← s .risen .size) b
+      tells Stuck Same goes a b = absurd (goes refl)
+      tells Stuck Changed goes a b = absurd (goes refl)
+      tells Same Same goes a b = (b .0 ∙ a .0, (later (a .1), earlier (b .1)))
+      tells Same Changed goes a b = (grew-before (s .risen) (b .0), (later (a .1), earlier (b .1)))
+      tells Changed Same goes a b = (grew-after (a .0) (t .risen), (later (a .1), earlier (b .1)))
+      tells Changed Changed goes a b = (grew-after (a .0) (t .risen), (later (a .1), earlier (b .1)))

@@ -29,18 +29,11 @@ pub record Stepped (M : (ℕ → ℕ) → (ℕ → ℕ) → Type 0) (N : Net) (v
   pub risen : Risen N v₀ v
   pub told : Told M N v₀ v r
 
--- what two steps found together
+-- what two steps found together, where the first is not stuck
 abbrev pub join : Found → Found → Found
-join Stuck second = Stuck
-join Same second = second
-join Changed Stuck = Stuck
-join Changed Same = Changed
-join Changed Changed = Changed
-
--- the arc that a pass over count arcs comes to after i others
-abbrev pub turn : ℕ → ℕ → Bool → ℕ
-turn count i true = count - 1 - i
-turn count i false = i
+join first Same = first
+join first Changed = Changed
+join first Stuck = Stuck
 
 -- all passes: the least solution, or none exists
 abbrev pub Swept : Net → ℕ → List ℕ → Bool → Type 0
