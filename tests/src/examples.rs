@@ -106,12 +106,18 @@ fn wall() -> Draft {
 
 /// A panel: 12 sensor tiles, 3 readout boards and 1 ribbon cable.
 ///
-/// The tiles are glued side by side, 40 units each. A board reads four of them and is 150 units
-/// wide. The cable leaves straight down from the middle board.
+/// The tiles are glued side by side, 40 units each, and a board is 150 units wide.
 fn panel() -> Draft {
-    let mut draft = Draft::new(480, &[12, 3, 1]);
-    spaced(&mut draft, 1, 40, 40);
-    spaced(&mut draft, 2, 150, 0);
+    panel_of(40, 150)
+}
+
+/// A panel whose tiles and boards have these widths.
+///
+/// A board reads four tiles. The cable leaves straight down from the middle board.
+pub fn panel_of(tile: u16, board: u16) -> Draft {
+    let mut draft = Draft::new(12 * tile, &[12, 3, 1]);
+    spaced(&mut draft, 1, tile, tile);
+    spaced(&mut draft, 2, board, 0);
     for tile in 1..=12 {
         draft = draft.edge(1, tile, tile.div_ceil(4), PLAIN);
     }

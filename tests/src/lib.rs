@@ -11,6 +11,7 @@ pub mod examples;
 pub mod families;
 pub mod files;
 pub mod generate;
+pub mod kinds;
 pub mod mutation;
 pub mod planted;
 pub mod random;

@@ -82,13 +82,7 @@ pub fn planted(random: &mut Random, plan: &Plan) -> Draft {
 /// The random drawing: the places of each layer.
 fn rows(random: &mut Random, plan: &Plan) -> Vec<Vec<u16>> {
     let mut counts = vec![1; plan.layers.into()];
-    for _ in plan.layers..plan.nodes {
-        let mut layer = random.index(counts.len());
-        while counts[layer] == LAYER_NODE_LIMIT {
-            layer = (layer + 1) % counts.len();
-        }
-        counts[layer] += 1;
-    }
+    add_nodes(random, &mut counts, plan.nodes);
     let row = |&count: &u16| {
         let mut place = random.within(0..=plan.distance);
         let next = |_| {
@@ -99,6 +93,17 @@ fn rows(random: &mut Random, plan: &Plan) -> Vec<Vec<u16>> {
         (0..count).map(next).collect()
     };
     counts.iter().map(row).collect()
+}
+
+/// Counts nodes in random layers that have room, until there are so many nodes in all.
+pub fn add_nodes(random: &mut Random, counts: &mut [u16], nodes: u16) {
+    for _ in counts.iter().sum()..nodes {
+        let mut layer = random.index(counts.len());
+        while counts[layer] == LAYER_NODE_LIMIT {
+            layer = (layer + 1) % counts.len();
+        }
+        counts[layer] += 1;
+    }
 }
 
 /// A separation that two neighbours at this distance keep.

@@ -26,7 +26,7 @@ pub fn orders(random: &mut Random, draft: &Draft) -> Vec<Vec<usize>> {
 }
 
 /// The list in a random order.
-fn shuffled(random: &mut Random, mut list: Vec<usize>) -> Vec<usize> {
+pub fn shuffled<T>(random: &mut Random, mut list: Vec<T>) -> Vec<T> {
     for end in (1..list.len()).rev() {
         list.swap(end, random.index(end + 1));
     }

@@ -131,8 +131,15 @@ pub fn bends(random: &mut Random) -> Draft {
     }
     draft.edges = straight_edges(&chains, &rows);
     let plain = random.within(0..=EDGE_LIMIT - draft.edges.len() as u16);
+    with_plain(random, draft, plain)
+}
+
+/// The sheet with so many plain edges more, between any nodes of neighbouring layers.
+pub fn with_plain(random: &mut Random, mut draft: Draft, plain: u16) -> Draft {
+    let count = |layer: &Vec<Separation>| layer.len() as u16 + 1;
+    let counts: Vec<u16> = draft.layers.iter().map(count).collect();
     for _ in 0..plain {
-        let layer = random.within(1..=layers - 1);
+        let layer = random.within(1..=counts.len() as u16 - 1);
         let upper = random.within(1..=counts[usize::from(layer) - 1]);
         let lower = random.within(1..=counts[usize::from(layer)]);
         draft = draft.edge(layer, upper, lower, PLAIN);
