@@ -8,7 +8,8 @@ pub struct Plan {
     pub layers: u16,
     pub nodes: u16,
     pub edges: u16,
-    /// How many nodes are in chains, or one more; where none are, the edges lead anywhere.
+    /// How many nodes are in chains, but for one that may be left over; where none are, the edges lead
+    /// anywhere.
     pub chained: u16,
     /// The greatest minimum separation.
     pub minimum: u16,

@@ -1,0 +1,114 @@
+//! Times the library on kinds of sheets, in turn with a peer that solves the same networks.
+//!
+//! Run with the name of a kind of full size, it only draws each sheet of that kind once: valgrind counts
+//! the instructions of these calls.
+
+mod clock;
+mod count;
+mod measure;
+mod peer;
+mod sample;
+mod table;
+
+use std::env;
+
+use clock::Clock;
+use measure::{least, Drawn, ROUNDS};
+use peer::Peer;
+use sample::Sample;
+use strip_tests::kinds::{bad, full, panels, undrawn, with_nodes, Kind};
+use table::{cells, print_head, print_row};
+
+/// Prints the tables, or draws the sheets of one kind. Cargo adds an argument of its own.
+fn main() {
+    match env::args().skip(1).find(|argument| argument != "--bench") {
+        Some(name) => draw_each(&name),
+        None => print_tables(),
+    }
+}
+
+/// Draws each sheet of a kind of full size once.
+fn draw_each(name: &str) {
+    let kind = full().into_iter().find(|kind| kind.name == name);
+    for mut sample in samples(&kind.expect("a kind of full size")) {
+        assert!(sample.draw().is_some());
+    }
+}
+
+/// The samples of a kind.
+fn samples(kind: &Kind) -> Vec<Sample> {
+    let bytes = kind.sheets.iter().map(|draft| draft.bytes());
+    bytes.map(Sample::new).collect()
+}
+
+/// Prints the tables of drawing, of the other calls, and of refusals.
+fn print_tables() {
+    println!("microseconds of processor time, the least of {ROUNDS} rounds for each sheet");
+    let clock = Clock::new();
+    let full = full();
+    let mut others: Vec<Kind> = [128, 64, 32, 16].map(with_nodes).into();
+    others.push(panels());
+    print_drawn(&clock, &full, &others);
+    print_head(&["read", "check", "narrowest"], "");
+    for kind in full.iter().chain(&others) {
+        print_calls(&clock, kind);
+    }
+    print_head(&["draw", "narrowest"], "");
+    for kind in undrawn() {
+        print_refused(&clock, &kind.name, samples(&kind));
+    }
+    let bad = bad().into_iter().map(Sample::new);
+    print_refused(&clock, "bad sheets", bad.collect());
+}
+
+/// Prints the table of drawing; sheets of full size have a row for all of them, too.
+fn print_drawn(clock: &Clock, full: &[Kind], others: &[Kind]) {
+    let mut peer = Peer::start();
+    if peer.is_none() {
+        println!("no peer: g++ or LEMON is missing");
+    }
+    print_head(&["draw", "LEMON", "draw / LEMON"], "  million instructions");
+    let mut draw = |kind: &Kind| match &mut peer {
+        Some(peer) => Drawn::in_turn(clock, peer, &mut samples(kind)),
+        None => Drawn::alone(clock, &mut samples(kind)),
+    };
+    let mut all = Drawn::default();
+    for kind in full {
+        let drawn = draw(kind);
+        let count = kind.sheets.len() as f64;
+        let millions = count::millions(&kind.name).map(|millions| millions / count);
+        print_times(&kind.name, &drawn, millions);
+        all.extend(drawn);
+    }
+    print_times("all of full size", &all, None);
+    for kind in others {
+        print_times(&kind.name, &draw(kind), None);
+    }
+}
+
+/// Prints a row of drawing, with the instructions for a sheet where they are counted.
+fn print_times(name: &str, drawn: &Drawn, millions: Option<f64>) {
+    let times = cells(&drawn.library, 1) + &cells(&drawn.peer, 1) + &cells(&drawn.ratios(), 2);
+    let millions = millions.map_or("-".to_owned(), |millions| format!("{millions:.3}"));
+    print_row(name, drawn.library.len(), &format!("{times}{millions:>9}"));
+}
+
+/// Prints a row of the other calls.
+fn print_calls(clock: &Clock, kind: &Kind) {
+    let mut samples = samples(kind);
+    assert!(samples.iter_mut().all(|sample| sample.draw().is_some()));
+    let calls = [Sample::read, Sample::check, Sample::narrowest];
+    let times = calls.map(|call| cells(&least(clock, &mut samples, call), 1));
+    print_row(&kind.name, samples.len(), &times.concat());
+}
+
+/// Prints a row of refusals; the minimum width may be told.
+fn print_refused(clock: &Clock, name: &str, mut samples: Vec<Sample>) {
+    let draw = least(clock, &mut samples, |sample| sample.draw().is_none());
+    let narrowest = least(clock, &mut samples, |sample| {
+        sample.narrowest();
+        true
+    });
+    let times = cells(&draw, 1) + &cells(&narrowest, 1);
+    print_row(name, samples.len(), &times);
+}
