@@ -10,7 +10,6 @@ pub mod Floods
 pub mod Flows
 pub mod Gaps
 pub mod Leftmost
-pub mod Meaning
 pub mod Moves
 pub mod Parts
 pub mod Rooms

@@ -3,3 +3,4 @@ pub mod Slackness
 pub mod Search
 pub mod Steps
 pub mod Finish
+pub mod Optimal

@@ -1,11 +1,8 @@
--- What can be moved: flows are bounded, and no node has more room than the source, so an amount is at most what is left to
--- move.
+-- What can be moved: no node has more room than the source, so an amount is at most what is left to move.
 use Rattle.network.specs.laws.SumsTo.{sum-to-ge}
-use Rattle.network.specs.Net.{at, Net, arcs, tail, head, high}
-use Rattle.circulation.specs.inside.Slackness.{Slack}
-use Rattle.circulation.specs.Input.{Limited}
+use Rattle.network.specs.Net.{at, Net, tail, head}
 use Rattle.circulation.specs.inside.Search.{surplus, Link, Reached, Amount}
-use mathlib.Core.Path.{_≡_, ap}
+use mathlib.Core.Path.{ap}
 use mathlib.Core.Logic.{⊎-elim}
 use mathlib.Core.List.{List}
 use Prim.Native.Nat.{ℕ, zero, suc, _+_, _-_, _≤_, _<_}
@@ -13,16 +10,7 @@ use native.Mathlib.Nat.{le-refl}
 use native.Mathlib.Decide.{ℕ-discrete}
 use native.Mathlib.Omega.{arith}
 use lib.ListN.{length}
-use Rattle.network.specs.Packed.{high-none}
 use Rattle.circulation.specs.Nodes.{need-zero}
-
--- flows are at most 2 ^ 29
-pub x-top : {N : Net} {p x : ℕ → ℕ} → Limited N → Slack N p x → (i : ℕ) → i < arcs N → x i ≤ high-none
-x-top {N} {p} {x} limited s i l = go (ℕ-discrete (high N i) high-none)
-  where
-    go : Dec (high N i ≡ high-none) → x i ≤ high-none
-    go (yes e) = omega (arith, s .within i l .1)
-    go (no ne) = omega (arith, s .within i l .1, limited .each i l .high-in .soft ne)
 
 -- no node has more room than the source
 module _ {N : Net} {s t : ℕ} {p x e order via room : List ℕ} (r : Reached N s t p x e order via room) where

@@ -9,7 +9,8 @@ use Prim.Native.Nat.{ℕ, _+_, _-_, _≤_, _<_}
 use native.Mathlib.Decide.{ℕ-discrete}
 use native.Mathlib.Omega.{arith}
 use lib.ListN.{length}
-use Rattle.circulation.proofs.laws.Flows.{sum-pick, pick-yes, pick-no}
+use Rattle.circulation.proofs.laws.Flows.{sum-pick}
+use Rattle.circulation.specs.laws.Picks.{pick-yes, pick-no}
 use Rattle.circulation.specs.Nodes.{need-zero}
 use Rattle.circulation.proofs.laws.Amounts.{amount-most}
 

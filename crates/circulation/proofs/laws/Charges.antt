@@ -14,7 +14,7 @@ use lib.ListN.{length, set, length-set}
 use lib.Seq.{getD-set-same, getD-set-other}
 use Rattle.circulation.specs.laws.Columns.{column-length}
 use Rattle.circulation.proofs.laws.Columns.{apart-start, apart-next}
-use Rattle.circulation.proofs.laws.Flows.{pick-yes, pick-no}
+use Rattle.circulation.specs.laws.Picks.{pick-yes, pick-no}
 
 -- what is enough stays enough where the other end gets more
 pub stays-high : (e : List ℕ) (h t a : ℕ) → h < length e → a ≤ at e t → a ≤ at (set e h (at e h + a)) t

@@ -11,7 +11,8 @@ use native.Mathlib.Numerals.{add-one}
 use native.Mathlib.Decide.{ℕ-discrete}
 use native.Mathlib.Omega.{arith}
 use lib.ListN.{length}
-use Rattle.circulation.proofs.laws.Flows.{flow-le, pick-yes, pick-no}
+use Rattle.circulation.proofs.laws.Flows.{flow-le}
+use Rattle.circulation.specs.laws.Picks.{pick-yes, pick-no}
 use Rattle.network.specs.Packed.{flow-zero}
 use Rattle.network.specs.Limits.{most-arcs}
 use Rattle.circulation.specs.Limits.{low-least, high-most}

@@ -6,29 +6,10 @@ use Rattle.circulation.specs.inside.Slackness.{pick, flow, inflow, outfl
 use mathlib.Core.Path.{_≡_, refl, sym, _∙_}
 use mathlib.Core.List.{List}
 use Prim.Native.Nat.{ℕ, _+_, _≤_, _<_}
-use native.Mathlib.Decide.{ℕ-discrete}
 use native.Mathlib.Omega.{arith}
-use borrow.Author.Tests.{eq-eqb, ne-eqb}
 use lib.ListN.{length, set}
 use Rattle.network.specs.Packed.{flow-zero}
-
--- the picked one
-pub pick-yes : (u v a : ℕ) → u ≡ v → pick u v a ≡ a
-unfolding pick
-pick-yes u v a e = rw (eq-eqb u v e)
-
--- another one
-pub pick-no : (u v a : ℕ) → (u ≡ v → ⊥) → pick u v a ≡ 0
-unfolding pick
-pick-no u v a ne = rw (ne-eqb u v ne)
-
--- either way at most the number
-pub pick-le : (u v a : ℕ) → pick u v a ≤ a
-pick-le u v a = go (ℕ-discrete u v)
-  where
-    go : Dec (u ≡ v) → pick u v a ≤ a
-    go (yes e) = omega (arith, pick-yes u v a e)
-    go (no ne) = omega (arith, pick-no u v a ne)
+use Rattle.circulation.specs.laws.Picks.{pick-yes, pick-no, pick-le}
 
 -- of all nodes only one is picked
 pub sum-pick : (n u a : ℕ) → u < n → sum-to n (λ v. pick u v a) ≡ a

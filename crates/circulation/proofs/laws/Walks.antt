@@ -14,10 +14,12 @@ use native.Mathlib.Decide.{ℕ-discrete}
 use native.Mathlib.Omega.{arith}
 use lib.ListN.{length, set, length-set}
 use lib.Seq.{getD-set-other}
-use Rattle.circulation.proofs.laws.Flows.{flow-set, pick-yes, pick-no}
+use Rattle.circulation.proofs.laws.Flows.{flow-set}
+use Rattle.circulation.specs.laws.Picks.{pick-yes, pick-no}
 use Rattle.network.specs.Packed.{high-none}
 use Rattle.circulation.specs.Nodes.{need-zero}
-use Rattle.circulation.proofs.laws.Amounts.{x-top, amount-most}
+use Rattle.circulation.proofs.laws.Amounts.{amount-most}
+use Rattle.circulation.specs.laws.FlowsBounded.{x-top}
 
 -- a sum, picked
 pick-add : (u v a b : ℕ) → pick u v (a + b) ≡ pick u v a + pick u v b

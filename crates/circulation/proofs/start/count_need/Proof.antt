@@ -3,7 +3,7 @@ use Rattle.circulation.specs.Nodes.{column, node-stride}
 use Rattle.circulation.specs.inside.Stores.{Apart}
 use Rattle.network.specs.Net.{net}
 use Rattle.circulation.proofs.laws.Counts.{Counting, count-start, count-range, count-next, count-all}
-use Rattle.circulation.proofs.laws.Flows.{pick-le}
+use Rattle.circulation.specs.laws.Picks.{pick-le}
 use Rattle.circulation.specs.laws.Columns.{column-length}
 use Rattle.circulation.proofs.laws.Columns.{apart-start, apart-join}
 use lib.ListN.{length}

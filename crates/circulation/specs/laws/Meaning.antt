@@ -25,7 +25,7 @@ use borrow.Author.Tests.{eq-eqb, ne-eqb}
 use lib.Dec.{T, eqb}
 use lib.IntN.{ℤ, pos, _+ℤ_, _-ℤ_}
 use lib.Signed.{_≤ℤ_}
-use Rattle.circulation.proofs.laws.Flows.{pick-yes, pick-no}
+use Rattle.circulation.specs.laws.Picks.{pick-yes, pick-no}
 
 -- potentials of n nodes relative to ground's
 abbrev pub relative : ℕ → (ℕ → ℕ) → List ℤ
