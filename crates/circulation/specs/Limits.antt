@@ -9,6 +9,14 @@ low-least = 268434432
 abbrev pub high-most : ℕ
 high-most = 268436480
 
+-- a flow that is counted, as it is stored: at least -16,384, with 2^28 added
+abbrev pub flow-least : ℕ
+flow-least = 268419072
+
+-- and at most 16,384
+abbrev pub flow-most : ℕ
+flow-most = 268451840
+
 -- a potential to start from: 2^28
 abbrev pub start-limit : ℕ
 start-limit = 268435456

@@ -110,8 +110,8 @@ fn high_ok(h: usize) -> bool
     true
 }
 
-// Whether the potentials to start from are small.
-fn low_start(nodes: &[u32], n: usize) -> bool
+// Whether potentials are small enough to start from.
+pub fn low_start(nodes: &[u32], n: usize) -> bool
     requires { ⌜ (n ≡ size (now nodes)) × (n ≤ most-nodes) ⌝ }
     ensures { λ r. ⌜ Tested (First (at (potentials (now (nodes .entry))))) r ⌝ }
 {

@@ -1,17 +1,17 @@
 // The primal-dual method: flows and potentials of a network that fit each other, least in cost and leftmost among the least.
 // Numbers are stored with something added, so that all are natural; sums and tests are on 64 bits, the slices hold 32.
-mod arc;
+pub mod arc;
 mod augment;
-mod finish;
+pub mod finish;
 mod gap;
 mod hints;
-mod input;
+pub mod input;
 pub mod layout;
-mod limits;
-mod nodes;
+pub mod limits;
+pub mod nodes;
 mod raise;
 mod search;
-mod start;
+pub mod start;
 
 use crate::augment::augment;
 use crate::finish::finish;

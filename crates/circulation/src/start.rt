@@ -18,13 +18,12 @@ ghost use mathlib.Core.Path.{_≡_};
 ghost use Prim.Native.Nat.{ℕ, _+_, _≤_, _<_};
 ghost use lib.ListN.{length};
 ghost use Rattle.circulation.specs.inside.Stores.{Apart};
-ghost use Rattle.circulation.specs.inside.Slackness.{Filled, FilledAt, Small, inflow, outflow, pick};
+ghost use Rattle.circulation.specs.inside.Slackness.{Countable, Filled, FilledAt, Small, inflow, outflow, pick};
 ghost use Rattle.network.specs.WellFormed.{WellFormed};
 ghost use Rattle.circulation.specs.Input.{Valid};
 ghost use Rattle.network.specs.Net.{asks, at, high, low, net, stands};
 ghost use Rattle.network.specs.Packed.{«word-limit»};
 ghost use Rattle.network.specs.Limits.{«most-nodes»};
-ghost use Rattle.circulation.specs.Limits.{«high-most», «low-least»};
 ghost use Rattle.circulation.specs.Nodes.{«need-zero», needs, potentials, size};
 
 // The flows to start with.
@@ -74,7 +73,7 @@ fn filled(stands: usize, asks: usize, low: usize, high: usize) -> usize
 // The need of each node.
 pub fn count_need(arcs: &[u32], flows: &[u32], nodes: &mut [u32])
     requires { ⌜ WellFormed (net (now arcs) (length (now flows))) (size (now nodes)) ⌝ }
-    requires { ⌜ ((i : ℕ) → i < length (now flows) → (low-least ≤ at (now flows) i) × (at (now flows) i ≤ high-most)) ⌝ }
+    requires { ⌜ Countable (length (now flows)) (at (now flows)) ⌝ }
     ensures { λ _. ⌜ ((v : ℕ) → v < size (now (nodes .entry))
         → at (needs (now (nodes .exit))) v
         + inflow (net (now (arcs .entry)) (length (now (flows .entry)))) (length (now (flows .entry))) (at (now (flows .entry))) v

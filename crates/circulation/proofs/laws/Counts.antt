@@ -2,11 +2,11 @@
 use Rattle.network.specs.laws.SumsTo.{sum-to-le, sum-to-add, sum-to-bound}
 use Rattle.network.specs.Net.{at, Net, arcs, tail, head}
 use Rattle.network.specs.Sums.{sum-to}
-use Rattle.circulation.specs.inside.Slackness.{pick, flow, inflow, outflow}
+use Rattle.circulation.specs.inside.Slackness.{pick, flow, inflow, outflow, Countable}
 use Rattle.circulation.specs.Nodes.{need-zero}
 use mathlib.Core.Path.{_≡_, refl, subst, _∙_}
 use mathlib.Core.List.{List}
-use Prim.Native.Nat.{ℕ, _+_, _≤_, _<_}
+use Prim.Native.Nat.{ℕ, _+_, _-_, _≤_, _<_}
 use native.Mathlib.Numerals.{add-one}
 use native.Mathlib.Decide.{ℕ-discrete}
 use native.Mathlib.Omega.{arith}
@@ -15,7 +15,7 @@ use Rattle.circulation.proofs.laws.Flows.{flow-le}
 use Rattle.circulation.specs.laws.Picks.{pick-yes, pick-no}
 use Rattle.network.specs.Packed.{flow-zero}
 use Rattle.network.specs.Limits.{most-arcs}
-use Rattle.circulation.specs.Limits.{low-least, high-most}
+use Rattle.circulation.specs.Limits.{flow-most}
 
 -- the flow of one arc more
 flow-suc : (i : ℕ) (ends : ℕ → ℕ) (x : ℕ → ℕ) (v : ℕ) → flow (i + 1) ends x v ≡ pick (ends i) v (x i) + flow i ends x v
@@ -28,20 +28,20 @@ unfolding sum-to
 flow-none ends x v = refl
 
 -- flows that differ by little
-pub flow-near : (m : ℕ) (ends x y : ℕ → ℕ) (v : ℕ) → ((i : ℕ) → i < m → x i ≤ y i + 1024)
-    → flow m ends x v ≤ flow m ends y v + flow m ends (λ i. 1024) v
-flow-near m ends x y v near = omega (
+pub flow-near : (m d : ℕ) (ends x y : ℕ → ℕ) (v : ℕ) → ((i : ℕ) → i < m → x i ≤ y i + d)
+    → flow m ends x v ≤ flow m ends y v + flow m ends (λ i. d) v
+flow-near m d ends x y v near = omega (
   arith,
-  sum-to-le m (λ i. pick (ends i) v (x i)) (λ i. pick (ends i) v (y i) + pick (ends i) v 1024)
+  sum-to-le m (λ i. pick (ends i) v (x i)) (λ i. pick (ends i) v (y i) + pick (ends i) v d)
       (λ i l. pick-near (ends i) v (x i) (y i) (near i l)),
-  sum-to-add m (λ i. pick (ends i) v (y i)) (λ i. pick (ends i) v 1024),
+  sum-to-add m (λ i. pick (ends i) v (y i)) (λ i. pick (ends i) v d),
 )
   where
-    pick-near : (u v a b : ℕ) → a ≤ b + 1024 → pick u v a ≤ pick u v b + pick u v 1024
+    pick-near : (u v a b : ℕ) → a ≤ b + d → pick u v a ≤ pick u v b + pick u v d
     pick-near u v a b le = go (ℕ-discrete u v)
       where
-        go : Dec (u ≡ v) → pick u v a ≤ pick u v b + pick u v 1024
-        go (yes e) = omega (arith, pick-yes u v a e, pick-yes u v b e, pick-yes u v 1024 e)
+        go : Dec (u ≡ v) → pick u v a ≤ pick u v b + pick u v d
+        go (yes e) = omega (arith, pick-yes u v a e, pick-yes u v b e, pick-yes u v d e)
         go (no ne) = omega (arith, pick-no u v a ne)
 
 -- the first i arcs are counted
@@ -67,17 +67,18 @@ module _ {N : Net} {n : ℕ} {x : List ℕ} where
   }
 
   module _ {e : List ℕ} {i : ℕ} (c : Counting N n x e i) (l : i < arcs N) (few : arcs N ≤ most-arcs)
-      (small : (k : ℕ) → k < arcs N → (low-least ≤ at x k) × (at x k ≤ high-most)) where
-    -- a need in between is near 2^30
-    pub count-range : (v : ℕ) → v < n → (1056964608 ≤ at e v) × (at e v ≤ 1090519040)
+      (small : Countable (arcs N) (at x)) where
+    -- a need in between is at most 2^28 away from 2^30
+    pub count-range : (v : ℕ) → v < n → (805306368 ≤ at e v) × (at e v ≤ 1342177280)
     count-range v v-in =
-        let tails = flow-near i (tail N) (at x) (λ k. flow-zero) v (λ k below. omega (arith, small k (omega arith) .1)) in
-        let heads = flow-near i (head N) (at x) (λ k. flow-zero) v (λ k below. omega (arith, small k (omega arith) .1)) in
-        let tails′ = flow-near i (tail N) (λ k. flow-zero) (at x) v (λ k below. omega (arith, small k (omega arith) .0)) in
-        let heads′ = flow-near i (head N) (λ k. flow-zero) (at x) v (λ k below. omega (arith, small k (omega arith) .0)) in
-        let top = sum-to-bound i 1024 (λ k. 1024) (λ k below. omega arith) in
-        let t-top = flow-le i (tail N) (λ k. 1024) v in
-        let h-top = flow-le i (head N) (λ k. 1024) v in (
+        let size : ℕ = flow-most - flow-zero in
+        let tails = flow-near i size (tail N) (at x) (λ k. flow-zero) v (λ k below. omega (arith, small k (omega arith) .1)) in
+        let heads = flow-near i size (head N) (at x) (λ k. flow-zero) v (λ k below. omega (arith, small k (omega arith) .1)) in
+        let tails′ = flow-near i size (tail N) (λ k. flow-zero) (at x) v (λ k below. omega (arith, small k (omega arith) .0)) in
+        let heads′ = flow-near i size (head N) (λ k. flow-zero) (at x) v (λ k below. omega (arith, small k (omega arith) .0)) in
+        let top = sum-to-bound i size (λ k. size) (λ k below. omega arith) in
+        let t-top = flow-le i (tail N) (λ k. size) v in
+        let h-top = flow-le i (head N) (λ k. size) v in (
           omega (arith, c .sofar v v-in, tails′, heads, top, t-top, h-top),
           omega (arith, c .sofar v v-in, tails, heads′, top, t-top, h-top),
         )

@@ -34,7 +34,7 @@ module _ (nodes₀ : List ℕ) (end : ℕ) (is-end : end ≡ node-stride * size 
   front-length = omega (arith, length-take (end - 0) nodes₀)
 
   -- how many nodes it has
-  front-size : size (take (end - 0) nodes₀) ≡ size nodes₀
+  pub front-size : size (take (end - 0) nodes₀) ≡ size nodes₀
   front-size = omega (arith, front-length)
 
   -- how much is behind it
@@ -68,6 +68,18 @@ module _ (nodes₀ : List ℕ) (end : ℕ) (is-end : end ≡ node-stride * size 
     back-potentials : potentials (w ++ drop end nodes₀) ≡ potentials w
     back-potentials = column-front 0 w (drop end nodes₀) (omega arith) full behind
 
+    -- what is behind is kept
+    kept : (i : ℕ) → node-stride * size nodes₀ ≤ i → at (w ++ drop end nodes₀) i ≡ at nodes₀ i
+    kept i past =
+        let far : length w + (i - end) ≡ i = omega (arith, front-length) in
+        let near : end + (i - end) ≡ i = omega arith in
+        ap (at (w ++ drop end nodes₀)) (sym far)
+        ∙ (getD-append-add w (drop end nodes₀) (i - end) 0 ∙ (getD-drop end nodes₀ (i - end) 0 ∙ ap (at nodes₀) near))
+
+    -- the same of what a part that was lent is put back as
+    pub behind-kept : (i : ℕ) → node-stride * size nodes₀ ≤ i → at (w ++ postOf 0 (end - 0) nodes₀) i ≡ at nodes₀ i
+    behind-kept i past = rw (post-is 0 end nodes₀ (omega arith)) (kept i past)
+
     -- the room is 0, and what is behind is kept
     cleared : {chains₀ chains : List ℕ} → Zeroed node-stride w → length chains ≡ length chains₀
         → ((i : ℕ) → at chains i ≡ 0) → Cleared nodes₀ (w ++ drop end nodes₀) chains₀ chains
@@ -76,28 +88,28 @@ module _ (nodes₀ : List ℕ) (end : ℕ) (is-end : end ≡ node-stride * size 
       others =
           λ v k v-in some k-in. List·getD-append w (drop end nodes₀) 0 (node-stride * v + k) (omega (arith, front-length))
           ∙ (sym (column-at k w v (omega (arith, front-length))) ∙ z .zero k v some k-in);
-      rest = λ i past. kept i past;
+      rest = kept;
       chains-size = chains-same;
       chains-zero = zeros;
     }
-      where
-        kept : (i : ℕ) → node-stride * size nodes₀ ≤ i → at (w ++ drop end nodes₀) i ≡ at nodes₀ i
-        kept i past =
-            let far : length w + (i - end) ≡ i = omega (arith, front-length) in
-            let near : end + (i - end) ≡ i = omega arith in
-            ap (at (w ++ drop end nodes₀)) (sym far)
-            ∙ (getD-append-add w (drop end nodes₀) (i - end) 0 ∙ (getD-drop end nodes₀ (i - end) 0 ∙ ap (at nodes₀) near))
 
-    -- the answer, from what the front holds
+    -- the whole, from what the front holds
+    pub whole-back : {N : Net} (x chains₀ chains : List ℕ) → length chains ≡ length chains₀
+        → Solution N (size (take (end - 0) nodes₀)) (at x) (at (potentials w)) → Zeroed node-stride w → ((i : ℕ) → at chains i ≡ 0)
+        → Cleared nodes₀ (w ++ postOf 0 (end - 0) nodes₀) chains₀ chains
+        × Solution N (size nodes₀) (at x) (at (potentials (w ++ postOf 0 (end - 0) nodes₀)))
+    whole-back {N} x chains₀ chains chains-same s z zeros =
+        rw (post-is 0 end nodes₀ (omega arith)) (
+          cleared z chains-same zeros,
+          subst (λ (p : List ℕ). Solution N (size nodes₀) (at x) (at p)) (sym back-potentials)
+              (subst (λ (n : ℕ). Solution N n (at x) (at (potentials w))) front-size s),
+        )
+
+    -- the answer
     pub solved-back : {N : Net} (x₀ x chains₀ chains : List ℕ) → Valid N (size nodes₀) (potentials nodes₀)
         → length x ≡ length x₀ → length chains ≡ length chains₀
         → Solution N (size (take (end - 0) nodes₀)) (at x) (at (potentials w)) → Zeroed node-stride w → ((i : ℕ) → at chains i ≡ 0)
         → Means N x₀ nodes₀ chains₀ x (w ++ postOf 0 (end - 0) nodes₀) chains Finding.solved
     solved-back {N} x₀ x chains₀ chains v x-same chains-same s z zeros =
-        rw (post-is 0 end nodes₀ (omega arith)) (
-          v,
-          x-same,
-          cleared z chains-same zeros,
-          subst (λ (p : List ℕ). Solution N (size nodes₀) (at x) (at p)) (sym back-potentials)
-              (subst (λ (n : ℕ). Solution N n (at x) (at (potentials w))) front-size s),
-        )
+        let back = whole-back x chains₀ chains chains-same s z zeros in
+        (v, x-same, back .0, back .1)

@@ -85,8 +85,8 @@ module _ {N : Net} {n : ℕ} (p x : ℕ → ℕ) (wf : WellFormed N n) (limited 
     sum-to-le n (λ v. e v - need-zero) (λ v. flow (arcs N) (tail N) (λ i. 1024) v + flow (arcs N) (head N) (λ i. 1024) v) (λ v v-in. omega (
       arith,
       ex .need v v-in,
-      flow-near (arcs N) (tail N) x (λ i. flow-zero) v (λ i l. omega (arith, first-near i l .1)),
-      flow-near (arcs N) (head N) (λ i. flow-zero) x v (λ i l. omega (arith, first-near i l .0)),
+      flow-near (arcs N) 1024 (tail N) x (λ i. flow-zero) v (λ i l. omega (arith, first-near i l .1)),
+      flow-near (arcs N) 1024 (head N) (λ i. flow-zero) x v (λ i l. omega (arith, first-near i l .0)),
     )),
     sum-to-add n (flow (arcs N) (tail N) (λ i. 1024)) (flow (arcs N) (head N) (λ i. 1024)),
     flow-total n (arcs N) (tail N) (λ i. 1024) (λ i l. wf .arc-in i l .tail-in),

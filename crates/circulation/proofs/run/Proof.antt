@@ -45,8 +45,10 @@ count-need-requires c κs =
     let start = c .before .before .before .before .before .before .before .before .before .before .before .before .before .before .before .before .before in
     let saturate = c .before .before .before .before .saturate in (
       rw (saturate .kept .1 .0) (start .pre .wf),
-      λ i l. first-near (at (potentials (start .args .nodes .now))) (at (saturate .last .1 .0)) (start .pre .wf)
-          (start .pre .limited) (start .pre .feasible) (saturate .ensures) i (omega (arith, saturate .kept .1 .0)),
+      λ i l.
+          let near = first-near (at (potentials (start .args .nodes .now))) (at (saturate .last .1 .0)) (start .pre .wf)
+          (start .pre .limited) (start .pre .feasible) (saturate .ensures) i (omega (arith, saturate .kept .1 .0)) in
+          (omega (arith, near .0), omega (arith, near .1)),
     )
 
 loop-holds : tie.Need-loop-holds Inv-loop μ-loop

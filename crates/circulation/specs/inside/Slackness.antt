@@ -10,7 +10,7 @@ use Prim.Native.Nat.{ℕ, _+_, _≤_, _<_}
 use lib.Dec.{eqb}
 use lib.ListN.{length}
 use Rattle.network.specs.Packed.{high-none, flow-zero}
-use Rattle.circulation.specs.Limits.{rested-limit, potential-limit}
+use Rattle.circulation.specs.Limits.{flow-least, flow-most, rested-limit, potential-limit}
 
 -- complementary slackness, and flows that are allowed
 pub record Slack (N : Net) (p x : ℕ → ℕ) : Type 0 where
@@ -35,6 +35,10 @@ inflow N m x v = flow m (head N) x v + flow m (tail N) (λ i. flow-zero) v
 -- and out
 abbrev pub outflow : Net → ℕ → (ℕ → ℕ) → ℕ → ℕ
 outflow N m x v = flow m (tail N) x v + flow m (head N) (λ i. flow-zero) v
+
+-- the first m flows are small enough to be counted
+abbrev pub Countable : ℕ → (ℕ → ℕ) → Type 0
+Countable m x = (i : ℕ) → i < m → (flow-least ≤ x i) × (x i ≤ flow-most)
 
 -- as much flows in as out at each of n nodes
 pub record Balanced (N : Net) (n : ℕ) (x : ℕ → ℕ) : Type 0 where
