@@ -1,2 +1,4 @@
 pub mod Potentials
+pub mod Shown
+pub mod Passes
 pub mod Start

@@ -1,1 +1,3 @@
 pub mod Potentials
+pub mod Shown
+pub mod Optimal

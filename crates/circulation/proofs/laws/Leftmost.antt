@@ -6,7 +6,7 @@ use Rattle.circulation.specs.inside.Steps.{Flooded}
 use Rattle.circulation.specs.inside.Finish.{Settled}
 use Rattle.circulation.specs.inside.Optimal.{Support}
 use Rattle.circulation.specs.laws.Columns.{column-length}
-use Rattle.circulation.specs.laws.Optimal.{optimal-solution}
+use Rattle.circulation.specs.laws.Optimal.{settled-solution}
 use Rattle.circulation.specs.inside.Slackness.{Balanced}
 use Rattle.network.specs.WellFormed.{WellFormed}
 use Rattle.circulation.specs.inside.Search.{Tree, Link}
@@ -36,18 +36,15 @@ link-support {N} {p} {x} {order} {room} {v} {i} link = record {
 pub flooded-solution : (N : Net) (n : ℕ) (x nodes new : List ℕ) → WellFormed N n → size nodes ≡ n → Balanced N n (at x)
     → Flooded N n x nodes → Settled nodes new → Solution N n (at x) (at (potentials new))
 flooded-solution N n x nodes new wf size-is bal f settled =
-    optimal-solution N n (at (potentials nodes)) (at x) (at (ranks nodes)) wf
+    settled-solution x nodes new wf (f .grown .ready .limited) size-is
     (record {
       slack = f .grown .slack;
       balanced = bal;
       supported =
           λ v l. link-support (tree .links v (omega arith) (f .whole v (omega arith)) (λ e. omega arith));
     })
-    (f .grown .ready .limited) (at (potentials new)) moved
+    settled
   where
-    moved : (v : ℕ) → v < n → at (potentials new) v + at (potentials nodes) (n - 1) ≡ at (potentials nodes) v + potential-zero
-    moved v l = omega (arith, settled .relative v (omega arith), ap (λ (k : ℕ). at (potentials nodes) (k - 1)) size-is)
-
     tree : Tree N n (n - 1) (at (potentials nodes)) (at x) (at (ranks nodes)) (at (parents nodes)) (at (rooms nodes))
     tree = subst (λ (k : ℕ). Tree N k (n - 1) (at (potentials nodes)) (at x) (at (ranks nodes)) (at (parents nodes)) (at (rooms nodes)))
         (column-length 0 nodes ∙ size-is) (f .grown .tree)

@@ -64,6 +64,12 @@ module _ (nodes₀ : List ℕ) (end : ℕ) (is-end : end ≡ node-stride * size 
     full : node-stride * (length w / node-stride) ≡ length w
     full = omega (arith, front-length)
 
+    -- how long the whole is, with the front put back
+    pub back-length : length (w ++ postOf 0 (end - 0) nodes₀) ≡ length nodes₀
+    back-length =
+        rw (post-is 0 end nodes₀ (omega arith))
+        (omega (arith, length-append w (drop end nodes₀), length-drop end nodes₀, front-length))
+
     -- the potentials of what is put back
     back-potentials : potentials (w ++ drop end nodes₀) ≡ potentials w
     back-potentials = column-front 0 w (drop end nodes₀) (omega arith) full behind

@@ -1,9 +1,9 @@
 -- Flows and potentials that are shown to be optimal are a solution once the potentials are stored relative to ground's: every node
 -- is held over the arc that supports it, by induction on the order.
 use Rattle.network.specs.laws.Tests.{fails, Listed}
-use Rattle.network.specs.Net.{Net, arcs, tail, head, low, high, asks, stands, meant}
+use Rattle.network.specs.Net.{at, Net, arcs, tail, head, low, high, asks, stands, meant}
 use Rattle.network.specs.laws.Indexed.{upto-length, upto-ext, listed-upto}
-use Rattle.circulation.specs.Nodes.{potential-zero}
+use Rattle.circulation.specs.Nodes.{potentials, ranks, size, potential-zero}
 use Rattle.network.specs.laws.IntegerParts.{parts-eq, less-parts}
 use Rattle.network.specs.Integers.{down, up, eqZ}
 use Rattle.network.specs.laws.Integers.{eqZ→eq}
@@ -14,6 +14,7 @@ use Rattle.network.specs.laws.Held.{Held, head-holds, tail-holds, held-leftmost
 use Rattle.network.specs.laws.Held.Held.{by-ground}
 use Rattle.network.specs.WellFormed.{WellFormed}
 use Rattle.circulation.specs.Input.{Limited}
+use Rattle.circulation.specs.inside.Finish.{Settled}
 use Rattle.circulation.specs.inside.Optimal.{Support, Optimal}
 use Rattle.network.specs.Packed.{low-of, high-of, arc-at, high-none, flow-zero}
 use Rattle.circulation.specs.Solutions.{flows-of, potentials-of, Solution}
@@ -120,3 +121,10 @@ module _ (N : Net) (n : ℕ) (p x order : ℕ → ℕ) (wf : WellFormed N n) (o 
         ground = omega (arith, moved (n - 1) (omega (arith, wf .some)));
         bounded = x-top limited (o .slack);
       }
+
+-- the same of the nodes as they are packed, once their potentials are relative to ground's
+pub settled-solution : {N : Net} {n : ℕ} (x nodes new : List ℕ) → WellFormed N n → Limited N → size nodes ≡ n
+    → Optimal N n (at (potentials nodes)) (at x) (at (ranks nodes)) → Settled nodes new → Solution N n (at x) (at (potentials new))
+settled-solution {N} {n} x nodes new wf limited size-is o settled =
+    optimal-solution N n (at (potentials nodes)) (at x) (at (ranks nodes)) wf o limited (at (potentials new))
+    (λ v l. omega (arith, settled .relative v (omega arith), ap (λ (k : ℕ). at (potentials nodes) (k - 1)) size-is))

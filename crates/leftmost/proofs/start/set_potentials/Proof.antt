@@ -1,4 +1,4 @@
--- `leftmost::set_potentials` meets its contract: each turn makes one store of the definition.
+-- `leftmost::start::set_potentials` meets its contract: each turn makes one store of the definition.
 use mathlib.Core.Path.{_≡_, refl, sym, _∙_, ap}
 use mathlib.Core.List.{List}
 use Prim.Native.Nat.{ℕ, _-_, _*_, _≤_}
@@ -8,8 +8,8 @@ use lib.ListN.{length, getD, set, length-set}
 use Rattle.leftmost.specs.inside.Potentials.{potentials-to}
 use Rattle.circulation.specs.Nodes.{node-stride}
 use Rattle.leftmost.proofs.laws.Potentials.{potentials-none, potentials-next}
-use Rattle.leftmost.proofs.set_potentials.Statement.{statement}
-use Rattle.leftmost.proofs.set_potentials.Tie as tie
+use Rattle.leftmost.proofs.start.set_potentials.Statement.{statement}
+use Rattle.leftmost.proofs.start.set_potentials.Tie as tie
 
 abbrev Inv-loop : tie.InvT-loop
 Inv-loop values count nodes₀ v₀ nodes v =

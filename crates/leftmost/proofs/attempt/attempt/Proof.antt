@@ -1,0 +1,75 @@
+-- `leftmost::attempt::attempt` meets its contract: a guess that passes is a solution once its potentials are relative to ground's.
+use Rattle.leftmost.proofs.laws.Passes.{passes-grounded, passes-left}
+use Rattle.leftmost.proofs.laws.Shown.{shown-yes}
+use Rattle.circulation.specs.Nodes.{node-stride}
+use Prim.Native.Nat.{ℕ, _/_}
+use mathlib.Core.Path.{ap}
+use borrow.Author.Tests.{not-false}
+use borrow.Author.Needs.{needs}
+use Rattle.leftmost.proofs.attempt.attempt.Statement.{statement}
+use Rattle.leftmost.proofs.attempt.attempt.Tie as tie
+
+guess-requires : tie.Need-guess-requires
+guess-requires c κs = search needs
+
+optimal-requires : tie.Need-optimal-requires
+optimal-requires c κs = 
+    let guess = c .before .before .before .before .before .before .before .before .guess in
+    rw (guess .kept .1 .0, guess .kept .1 .1 .0) (c .before .before .before .before .before .before .before .before .before .before .before .before .before .before .before .before .pre .wf)
+
+same-length : tie.Need-same-length
+same-length c = search needs
+
+same-length-2 : tie.Need-same-length-2
+same-length-2 c = search needs
+
+same-length-3 : tie.Need-same-length-3
+same-length-3 c = search needs
+
+returns : tie.Need-returns
+returns c = search needs
+
+finish-requires : tie.Need-finish-requires
+finish-requires c κs = 
+    let guess = c .before .before .before .before .before .before .before .before .before .before .before .before .before .before .guess in
+    let optimal = c .before .before .before .before .before .optimal in
+    passes-grounded (optimal .last .1 .1 .0) (ap (λ (k : ℕ). k / node-stride) (optimal .kept .1 .1 .0))
+    (rw (guess .kept .1 .0, guess .kept .1 .1 .0) (c .before .before .before .before .before .before .before .before .before .before .before .before .before .before .before .before .before .before .before .before .before .before .pre .wf))
+    (shown-yes (optimal .result) (optimal .ensures) (not-false (optimal .result) (c .before .before .if1 .left)))
+
+same-length-4 : tie.Need-same-length-4
+same-length-4 c = search needs
+
+same-length-5 : tie.Need-same-length-5
+same-length-5 c = search needs
+
+same-length-6 : tie.Need-same-length-6
+same-length-6 c = search needs
+
+returns-2 : tie.Need-returns-2
+returns-2 c = 
+    let guess = c .before .before .before .before .before .before .before .before .before .before .before .before .before .before .before .before .before .before .before .guess in
+    let optimal = c .before .before .before .before .before .before .before .before .before .before .optimal in
+    let finish = c .before .before .before .before .finish in
+    rw (guess .kept .1 .0, guess .kept .1 .1 .0) at
+    (passes-left (optimal .last .1 .1 .0) (ap (λ (k : ℕ). k / node-stride) (optimal .kept .1 .1 .0))
+    (rw (guess .kept .1 .0, guess .kept .1 .1 .0) (c .before .before .before .before .before .before .before .before .before .before .before .before .before .before .before .before .before .before .before .before .before .before .before .before .before .before .before .pre .wf))
+    (shown-yes (optimal .result) (optimal .ensures) (not-false (optimal .result) (c .before .before .before .before .before .before .before .if1 .left))) (finish .last .0)
+    (finish .last .1 .0) (rw (guess .kept .1 .0) (c .before .before .before .before .before .before .before .before .before .before .before .before .before .before .before .before .before .before .before .before .before .before .before .before .before .before .before .pre .limited)) (finish .ensures .0) (finish .ensures .1 .0)
+    (finish .ensures .1 .1))
+
+pub attempt-spec : {M : Type 1} → statement M
+attempt-spec =
+    tie.close
+    (tie.spec
+    guess-requires
+    optimal-requires
+    same-length
+    same-length-2
+    same-length-3
+    returns
+    finish-requires
+    same-length-4
+    same-length-5
+    same-length-6
+    returns-2)

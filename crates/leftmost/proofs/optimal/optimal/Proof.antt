@@ -1,0 +1,88 @@
+-- `leftmost::optimal::optimal` meets its contract: the tests together show what is asked.
+use Rattle.leftmost.proofs.laws.Passes.{passes}
+use Rattle.leftmost.proofs.laws.Shown.{shown-yes, shown-map}
+use Rattle.network.specs.laws.TestedAnswers.{tested-yes}
+use borrow.Author.Tests.{not-false}
+use borrow.Author.Needs.{needs}
+use Rattle.leftmost.proofs.optimal.optimal.Statement.{statement}
+use Rattle.leftmost.proofs.optimal.optimal.Tie as tie
+
+count-of-requires : tie.Need-count-of-requires
+count-of-requires c κs = search needs
+
+low-start-requires : tie.Need-low-start-requires
+low-start-requires c κs = search needs
+
+same-length : tie.Need-same-length
+same-length c = search needs
+
+returns : tie.Need-returns
+returns c = search needs
+
+all-fit-requires : tie.Need-all-fit-requires
+all-fit-requires c κs = 
+    let low-start = c .before .before .low-start in
+    (c .before .before .before .before .before .before .before .before .pre, tested-yes (low-start .result) (low-start .ensures) (not-false (low-start .result) (c .before .if1 .left)))
+
+same-length-2 : tie.Need-same-length-2
+same-length-2 c = search needs
+
+returns-2 : tie.Need-returns-2
+returns-2 c = search needs
+
+all-supported-requires : tie.Need-all-supported-requires
+all-supported-requires c κs = 
+    let low-start = c .before .before .before .before .before .low-start in
+    (c .before .before .before .before .before .before .before .before .before .before .before .pre, tested-yes (low-start .result) (low-start .ensures) (not-false (low-start .result) (c .before .before .before .before .if1 .left)))
+
+same-length-3 : tie.Need-same-length-3
+same-length-3 c = search needs
+
+returns-3 : tie.Need-returns-3
+returns-3 c = search needs
+
+count-need-requires : tie.Need-count-need-requires
+count-need-requires c κs = 
+    let all-fit = c .before .before .before .before .before .all-fit in
+    (c .before .before .before .before .before .before .before .before .before .before .before .before .before .before .pre, λ i l. (shown-yes (all-fit .result) (all-fit .ensures) (not-false (all-fit .result) (c .before .before .before .before .if2 .left))) .each i l .counted)
+
+level-requires : tie.Need-level-requires
+level-requires c κs = search needs
+
+same-length-4 : tie.Need-same-length-4
+same-length-4 c = search needs
+
+returns-4 : tie.Need-returns-4
+returns-4 c = 
+    let start = c .before .before .before .before .before .before .before .before .before .before .before .before .before .before .before .before .before .before .before in
+    let low-start = c .before .before .before .before .before .before .before .before .before .before .before .before .before .low-start in
+    let all-fit = c .before .before .before .before .before .before .before .before .before .before .all-fit in
+    let all-supported = c .before .before .before .before .before .before .before .all-supported in
+    let count-need = c .before .before .before .before .count-need in
+    let level = c .level in
+    shown-map
+    (passes (start .args .flows .now) (start .args .nodes .now) (count-need .last .1 .1 .0)
+    (tested-yes (low-start .result) (low-start .ensures) (not-false (low-start .result) (c .before .before .before .before .before .before .before .before .before .before .before .before .if1 .left)))
+    (shown-yes (all-fit .result) (all-fit .ensures) (not-false (all-fit .result) (c .before .before .before .before .before .before .before .before .before .if2 .left)))
+    (shown-yes (all-supported .result) (all-supported .ensures) (not-false (all-supported .result) (c .before .before .before .before .before .before .if3 .left)))
+    (count-need .ensures .0) (count-need .ensures .1))
+    (level .result) (level .ensures)
+
+pub optimal-spec : {M : Type 1} → statement M
+optimal-spec =
+    tie.close
+    (tie.spec
+    count-of-requires
+    low-start-requires
+    same-length
+    returns
+    all-fit-requires
+    same-length-2
+    returns-2
+    all-supported-requires
+    same-length-3
+    returns-3
+    count-need-requires
+    level-requires
+    same-length-4
+    returns-4)
