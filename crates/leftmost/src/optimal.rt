@@ -76,7 +76,13 @@ fn fits_at(arcs: &[u32], flows: &[u32], nodes: &[u32], i: usize) -> bool
 {
     let stands = stands_at(arcs, nodes, i, flows.len());
     let asks = asks_at(arcs, nodes, i, flows.len());
-    fit(stands, asks, flow_of(flows, i), low_of(arcs, i), high_of(arcs, i))
+    fit(
+        stands,
+        asks,
+        flow_of(flows, i),
+        low_of(arcs, i),
+        high_of(arcs, i),
+    )
 }
 
 // Where the head of arc i of m stands, with KINK_ZERO added.

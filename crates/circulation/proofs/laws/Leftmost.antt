@@ -1,7 +1,7 @@
 -- After a search from the ground that reached every node the potentials are the leftmost of least cost: every node is supported by
 -- the arc over which it was reached, in the order of reaching.
 use Rattle.network.specs.Net.{at, Net}
-use Rattle.circulation.specs.Nodes.{potentials, ranks, parents, rooms, size, potential-zero}
+use Rattle.circulation.specs.Nodes.{potentials, ranks, parents, rooms, size}
 use Rattle.circulation.specs.inside.Steps.{Flooded}
 use Rattle.circulation.specs.inside.Finish.{Settled}
 use Rattle.circulation.specs.inside.Optimal.{Support}
@@ -11,10 +11,10 @@ use Rattle.circulation.specs.inside.Slackness.{Balanced}
 use Rattle.network.specs.WellFormed.{WellFormed}
 use Rattle.circulation.specs.inside.Search.{Tree, Link}
 use Rattle.circulation.specs.Solutions.{Solution}
-use mathlib.Core.Path.{_≡_, subst, ap, _∙_}
+use mathlib.Core.Path.{_≡_, subst, _∙_}
 use mathlib.Core.Logic.{inl, inr, ⊎-elim}
 use mathlib.Core.List.{List}
-use Prim.Native.Nat.{ℕ, _+_, _-_, _<_}
+use Prim.Native.Nat.{ℕ, _-_}
 use native.Mathlib.Omega.{arith}
 
 -- the arc over which a node was reached supports it

@@ -1,7 +1,7 @@
 -- What the parts of the test show together: a guess that passes is optimal, can be stored relative to ground, and is then a
 -- solution.
 use Prim.Native.Nat.{ℕ, _+_, _-_, _<_}
-use mathlib.Core.Path.{_≡_, sym, ap, subst}
+use mathlib.Core.Path.{_≡_, sym, subst}
 use mathlib.Core.List.{List}
 use native.Mathlib.Omega.{arith}
 use Rattle.network.specs.Net.{at, Net, arcs}

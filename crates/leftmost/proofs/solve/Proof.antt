@@ -17,7 +17,7 @@ takes-requires : tie.Need-takes-requires
 takes-requires c κs = search needs
 
 returns : tie.Need-returns
-returns c = 
+returns c =
     let takes = c .before .takes in (
       λ t. tested-no (takes .result) (takes .ensures) (not-true (takes .result) (c .if1 .taken)) (t .arcs-in),
       refl,
@@ -41,41 +41,47 @@ enum-told-3 : tie.Need-enum-told-3
 enum-told-3 c = search needs
 
 set-potentials-requires : tie.Need-set-potentials-requires
-set-potentials-requires c κs = 
+set-potentials-requires c κs =
     let least = c .before .before .before .before .before .before .least in
-    let m = rw (c .before .before .enum-told3 .given .1) at (least .ensures) in
+    let enum-told3 = c .before .before .enum-told3 in
+    let m = rw (enum-told3 .given .1) at (least .ensures) in
     (omega arith, omega (arith, m .0 .values-room, least .kept .1 .1 .1 .0), omega (arith, m .0 .wf .nodes))
 
 solve-feasible-requires : tie.Need-solve-feasible-requires
-solve-feasible-requires c κs = 
+solve-feasible-requires c κs =
     let start = c .before .before .before .before .before .before .before .before .before .before .before .before .before .before .before .before .before .before .before .before in
     let takes = c .before .before .before .before .before .before .before .before .before .before .before .before .before .before .before .takes in
+    let if1 = c .before .before .before .before .before .before .before .before .before .before .before .before .before .before .if1 in
     let least = c .before .before .before .before .before .before .before .before .before .before .before .before .least in
+    let enum-told3 = c .before .before .before .before .before .before .before .before .enum-told3 in
     let set = c .before .before .before .before .before .set-potentials in
-    let m = rw (c .before .before .before .before .before .before .before .before .enum-told3 .given .1) at (least .ensures) in
+    let m = rw (enum-told3 .given .1) at (least .ensures) in
     feasible-start (start .args .nodes .now) (start .args .room .now) (least .last .1 .1 .1 .0) (set .last .1 .1 .0)
-    (tested-yes (takes .result) (takes .ensures) (not-false (takes .result) (c .before .before .before .before .before .before .before .before .before .before .before .before .before .before .if1 .left))) (m .0 .values-room) (m .1) (m .2)
+    (tested-yes (takes .result) (takes .ensures) (not-false (takes .result) (if1 .left))) (m .0 .values-room) (m .1) (m .2)
     (set .kept .1 .1 .0)
 
 same-length : tie.Need-same-length
 same-length c = search needs
 
 returns-2 : tie.Need-returns-2
-returns-2 c = 
-    let m = rw (c .enum-told .given .1) at (c .before .before .before .before .least .ensures) in
+returns-2 c =
+    let least = c .before .before .before .before .least in
+    let m = rw (c .enum-told .given .1) at (least .ensures) in
     (λ t. m .0 (record { wf = t .arcs-in .wf; values-room = t .room-in }), refl, refl, m .1)
 
 same-length-2 : tie.Need-same-length-2
 same-length-2 c = search needs
 
 returns-3 : tie.Need-returns-3
-returns-3 c = 
+returns-3 c =
     let takes = c .before .before .before .before .before .before .before .before .before .before .before .takes in
+    let if1 = c .before .before .before .before .before .before .before .before .before .before .if1 in
     let least = c .before .before .before .before .before .before .before .before .least in
+    let enum-told2 = c .before .before .before .before .enum-told2 in
     let clear = c .before .before .clear in
-    let m = rw (c .before .before .before .before .enum-told2 .given .1) at (least .ensures) in (
+    let m = rw (enum-told2 .given .1) at (least .ensures) in (
       record {
-        arcs-in = tested-yes (takes .result) (takes .ensures) (not-false (takes .result) (c .before .before .before .before .before .before .before .before .before .before .if1 .left));
+        arcs-in = tested-yes (takes .result) (takes .ensures) (not-false (takes .result) (if1 .left));
         room-in = m .0 .values-room;
       },
       λ s. m .3 (s .start) (s .feasible),
@@ -94,7 +100,7 @@ same-length-5 : tie.Need-same-length-5
 same-length-5 c = search needs
 
 returns-4 : tie.Need-returns-4
-returns-4 c = 
+returns-4 c =
     let start = c .before .before .before .before .before .before .before .before .before .before .before .before .before .before .before .before .before .before .before .before .before .before .before .before .before .before .before in
     let least = c .before .before .before .before .before .before .before .before .before .before .before .before .before .before .before .before .before .before .before .least in
     let set = c .before .before .before .before .before .before .before .before .before .before .before .before .set-potentials in

@@ -4,11 +4,11 @@ use Rattle.leftmost.proofs.laws.Shown.{shown-yes}
 use Rattle.leftmost.specs.Solutions.{Finding, Means}
 use Rattle.circulation.proofs.laws.Parts.{front-size, back-length, behind-kept, whole-back}
 use Rattle.circulation.specs.Input.{ArcsTaken}
-use Rattle.circulation.specs.Nodes.{node-stride}
+use Rattle.circulation.specs.Nodes.{node-stride, size}
 use Rattle.network.specs.Net.{net}
 use borrow.Rule.Slice.PartMut.{postOf}
 use lib.ListN.{length}
-use Prim.Native.Nat.{ℕ, _-_, _*_, _/_}
+use Prim.Native.Nat.{ℕ, _-_, _*_}
 use mathlib.Core.List.{List, _++_}
 use mathlib.Core.Path.{refl, sym, subst}
 use borrow.Author.Needs.{needs}
@@ -28,10 +28,12 @@ part-attempt-end : tie.Need-part-attempt-end
 part-attempt-end c = search needs
 
 attempt-requires : tie.Need-attempt-requires
-attempt-requires c κs = 
+attempt-requires c κs =
     let start = c .before .before .before .before .before .before .before in
+    let old : List ℕ = start .args .nodes .now in
+    let end : ℕ = node-stride * size old in
     subst (λ (n : ℕ). ArcsTaken (net (start .args .arcs .now) (length (start .args .flows .now))) n)
-    (sym (front-size (start .args .nodes .now) (node-stride * (length (start .args .nodes .now) / node-stride)) refl)) (start .pre .0 .arcs-in)
+    (sym (front-size old end refl)) (start .pre .0 .arcs-in)
 
 same-length : tie.Need-same-length
 same-length c = search needs
@@ -43,20 +45,24 @@ same-length-3 : tie.Need-same-length-3
 same-length-3 c = search needs
 
 returns : tie.Need-returns
-returns c = 
+returns c =
     let start = c .before .before .before .before .before .before .before .before .before .before .before .before .before .before .before in
     let attempt = c .before .before .before .before .before .before .before .attempt in
+    let old : List ℕ = start .args .nodes .now in
+    let end : ℕ = node-stride * size old in
     let left = shown-yes (attempt .result) (attempt .ensures) (c .if1 .taken) in
-    let back = whole-back (start .args .nodes .now) (node-stride * (length (start .args .nodes .now) / node-stride)) refl (attempt .last .1 .1 .0) (attempt .kept .1 .1 .0)
+    let back = whole-back old end refl (attempt .last .1 .1 .0) (attempt .kept .1 .1 .0)
     (attempt .last .1 .0) (start .args .room .now) (attempt .last .1 .1 .1 .0) (attempt .kept .1 .1 .1 .0) (left .solution)
     (left .others) (left .room-zero) in
     (start .pre .0, start .pre .1, attempt .kept .1 .0, back .0, back .1)
 
 circulate-requires : tie.Need-circulate-requires
-circulate-requires c κs = 
+circulate-requires c κs =
     let start = c .before .before .before .before .before .before .before .before .before .before .before .before .before .before .before .before .before .before in
     let attempt = c .before .before .before .before .before .before .before .before .before .before .attempt in
-    let same = back-length (start .args .nodes .now) (node-stride * (length (start .args .nodes .now) / node-stride)) refl (attempt .last .1 .1 .0) (attempt .kept .1 .1 .0) in
+    let old : List ℕ = start .args .nodes .now in
+    let end : ℕ = node-stride * size old in
+    let same = back-length old end refl (attempt .last .1 .1 .0) (attempt .kept .1 .1 .0) in
     (rw (attempt .kept .1 .0, same, attempt .kept .1 .1 .1 .0) (start .pre .0), rw (attempt .kept .1 .0, same) (start .pre .1))
 
 same-length-4 : tie.Need-same-length-4
@@ -69,16 +75,18 @@ same-length-6 : tie.Need-same-length-6
 same-length-6 c = search needs
 
 returns-2 : tie.Need-returns-2
-returns-2 c = 
+returns-2 c =
     let start = c .before .before .before .before .before .before .before .before .before .before .before .before .before .before .before .before .before .before .before .before .before .before .before .before .before in
     let attempt = c .before .before .before .before .before .before .before .before .before .before .before .before .before .before .before .before .before .attempt in
     let circulate = c .before .before .before .before .before .before .circulate in
+    let old : List ℕ = start .args .nodes .now in
+    let end : ℕ = node-stride * size old in
     let lent : List ℕ = attempt .last .1 .1 .0 in
-    let nodes : List ℕ = lent ++ postOf 0 ((node-stride * (length (start .args .nodes .now) / node-stride)) - 0) (start .args .nodes .now) in
-    solved-before (start .args .flows .now) (start .args .nodes .now) (start .args .room .now) (attempt .last .1 .0) nodes
+    let nodes : List ℕ = lent ++ postOf 0 (end - 0) old in
+    solved-before (start .args .flows .now) old (start .args .room .now) (attempt .last .1 .0) nodes
     (attempt .last .1 .1 .1 .0) (circulate .last .1 .0) (circulate .last .1 .1 .0) (circulate .last .1 .1 .1 .0)
-    (attempt .kept .1 .0) (back-length (start .args .nodes .now) (node-stride * (length (start .args .nodes .now) / node-stride)) refl lent (attempt .kept .1 .1 .0))
-    (behind-kept (start .args .nodes .now) (node-stride * (length (start .args .nodes .now) / node-stride)) refl lent (attempt .kept .1 .1 .0)) (attempt .kept .1 .1 .1 .0)
+    (attempt .kept .1 .0) (back-length old end refl lent (attempt .kept .1 .1 .0))
+    (behind-kept old end refl lent (attempt .kept .1 .1 .0)) (attempt .kept .1 .1 .1 .0)
     (subst
     (λ (m : ℕ). Means (net (start .args .arcs .now) m) (attempt .last .1 .0) nodes (attempt .last .1 .1 .1 .0)
     (circulate .last .1 .0) (circulate .last .1 .1 .0) (circulate .last .1 .1 .1 .0) Finding.solved)

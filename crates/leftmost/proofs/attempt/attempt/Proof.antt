@@ -1,10 +1,9 @@
 -- `leftmost::attempt::attempt` meets its contract: a guess that passes is a solution once its potentials are relative to ground's.
 use Rattle.leftmost.proofs.laws.Passes.{passes-grounded, passes-left}
-use Rattle.leftmost.proofs.laws.Shown.{shown-yes}
+use Rattle.leftmost.proofs.laws.Shown.{shown-past}
 use Rattle.circulation.specs.Nodes.{node-stride}
 use Prim.Native.Nat.{ℕ, _/_}
 use mathlib.Core.Path.{ap}
-use borrow.Author.Tests.{not-false}
 use borrow.Author.Needs.{needs}
 use Rattle.leftmost.proofs.attempt.attempt.Statement.{statement}
 use Rattle.leftmost.proofs.attempt.attempt.Tie as tie
@@ -13,9 +12,10 @@ guess-requires : tie.Need-guess-requires
 guess-requires c κs = search needs
 
 optimal-requires : tie.Need-optimal-requires
-optimal-requires c κs = 
+optimal-requires c κs =
+    let start = c .before .before .before .before .before .before .before .before .before .before .before .before .before .before .before .before in
     let guess = c .before .before .before .before .before .before .before .before .guess in
-    rw (guess .kept .1 .0, guess .kept .1 .1 .0) (c .before .before .before .before .before .before .before .before .before .before .before .before .before .before .before .before .pre .wf)
+    rw (guess .kept .1 .0, guess .kept .1 .1 .0) (start .pre .wf)
 
 same-length : tie.Need-same-length
 same-length c = search needs
@@ -30,12 +30,14 @@ returns : tie.Need-returns
 returns c = search needs
 
 finish-requires : tie.Need-finish-requires
-finish-requires c κs = 
+finish-requires c κs =
+    let start = c .before .before .before .before .before .before .before .before .before .before .before .before .before .before .before .before .before .before .before .before .before .before in
     let guess = c .before .before .before .before .before .before .before .before .before .before .before .before .before .before .guess in
     let optimal = c .before .before .before .before .before .optimal in
+    let if1 = c .before .before .if1 in
     passes-grounded (optimal .last .1 .1 .0) (ap (λ (k : ℕ). k / node-stride) (optimal .kept .1 .1 .0))
-    (rw (guess .kept .1 .0, guess .kept .1 .1 .0) (c .before .before .before .before .before .before .before .before .before .before .before .before .before .before .before .before .before .before .before .before .before .before .pre .wf))
-    (shown-yes (optimal .result) (optimal .ensures) (not-false (optimal .result) (c .before .before .if1 .left)))
+    (rw (guess .kept .1 .0, guess .kept .1 .1 .0) (start .pre .wf))
+    (shown-past (optimal .result) (optimal .ensures) (if1 .left))
 
 same-length-4 : tie.Need-same-length-4
 same-length-4 c = search needs
@@ -47,15 +49,17 @@ same-length-6 : tie.Need-same-length-6
 same-length-6 c = search needs
 
 returns-2 : tie.Need-returns-2
-returns-2 c = 
+returns-2 c =
+    let start = c .before .before .before .before .before .before .before .before .before .before .before .before .before .before .before .before .before .before .before .before .before .before .before .before .before .before .before in
     let guess = c .before .before .before .before .before .before .before .before .before .before .before .before .before .before .before .before .before .before .before .guess in
     let optimal = c .before .before .before .before .before .before .before .before .before .before .optimal in
+    let if1 = c .before .before .before .before .before .before .before .if1 in
     let finish = c .before .before .before .before .finish in
     rw (guess .kept .1 .0, guess .kept .1 .1 .0) at
     (passes-left (optimal .last .1 .1 .0) (ap (λ (k : ℕ). k / node-stride) (optimal .kept .1 .1 .0))
-    (rw (guess .kept .1 .0, guess .kept .1 .1 .0) (c .before .before .before .before .before .before .before .before .before .before .before .before .before .before .before .before .before .before .before .before .before .before .before .before .before .before .before .pre .wf))
-    (shown-yes (optimal .result) (optimal .ensures) (not-false (optimal .result) (c .before .before .before .before .before .before .before .if1 .left))) (finish .last .0)
-    (finish .last .1 .0) (rw (guess .kept .1 .0) (c .before .before .before .before .before .before .before .before .before .before .before .before .before .before .before .before .before .before .before .before .before .before .before .before .before .before .before .pre .limited)) (finish .ensures .0) (finish .ensures .1 .0)
+    (rw (guess .kept .1 .0, guess .kept .1 .1 .0) (start .pre .wf))
+    (shown-past (optimal .result) (optimal .ensures) (if1 .left)) (finish .last .0)
+    (finish .last .1 .0) (rw (guess .kept .1 .0) (start .pre .limited)) (finish .ensures .0) (finish .ensures .1 .0)
     (finish .ensures .1 .1))
 
 pub attempt-spec : {M : Type 1} → statement M

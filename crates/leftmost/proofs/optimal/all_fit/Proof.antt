@@ -1,9 +1,8 @@
 -- `leftmost::optimal::all_fit` meets its contract: the flows before i fit.
-use Rattle.leftmost.proofs.laws.Shown.{shown-yes}
+use Rattle.leftmost.proofs.laws.Shown.{shown-past}
 use Rattle.leftmost.specs.inside.Optimal.{FitsAt}
 use Rattle.circulation.specs.Nodes.{potentials}
 use Rattle.network.specs.Net.{at, net}
-use borrow.Author.Tests.{not-false}
 use borrow.Author.Count.{below-none, below-more}
 use lib.ListN.{length}
 use Prim.Native.Nat.{ℕ, _≤_, _<_, _-_}
@@ -13,7 +12,8 @@ use Rattle.leftmost.proofs.optimal.all_fit.Statement.{statement}
 use Rattle.leftmost.proofs.optimal.all_fit.Tie as tie
 
 abbrev Inv-loop : tie.InvT-loop
-Inv-loop arcs flows nodes i₀ i = (i ≤ length flows) × ((k : ℕ) → k < i → FitsAt (net arcs (length flows)) (at (potentials nodes)) (at flows) k)
+Inv-loop arcs flows nodes i₀ i =
+    (i ≤ length flows) × ((k : ℕ) → k < i → FitsAt (net arcs (length flows)) (at (potentials nodes)) (at flows) k)
 
 abbrev μ-loop : tie.MeasureT-loop
 μ-loop arcs flows nodes i₀ i = length flows - i
@@ -34,10 +34,10 @@ loop-less : tie.Need-loop-less Inv-loop μ-loop
 loop-less c = search needs
 
 loop-again : tie.Need-loop-again Inv-loop μ-loop
-loop-again c = 
+loop-again c =
     let fits = c .before .fits-at in (
       omega arith,
-      below-more _ _ (c .before .before .before .loop .inv .1) (shown-yes (fits .result) (fits .ensures) (not-false (fits .result) (c .if1 .left))),
+      below-more _ _ (c .before .before .before .loop .inv .1) (shown-past (fits .result) (fits .ensures) (c .if1 .left)),
     )
 
 returns-2 : tie.Need-returns-2 Inv-loop μ-loop

@@ -11,7 +11,7 @@ tail-of-requires : tie.Need-tail-of-requires
 tail-of-requires c κs = search needs
 
 get-requires : tie.Need-get-requires
-get-requires c κs = 
+get-requires c κs =
     let start = c .before .before .before in
     let tail-of = c .tail-of in
     let arc = start .pre .0 .arc-in (start .args .i) (start .pre .1 .1) in
@@ -21,15 +21,17 @@ kink-of-requires : tie.Need-kink-of-requires
 kink-of-requires c κs = search needs
 
 add-result : tie.Need-add-result
-add-result c = 
+add-result c =
     let start = c .before .before .before .before .before in
+    let tail-of = c .before .before .tail-of in
     let arc = start .pre .0 .arc-in (start .args .i) (start .pre .1 .1) in
-    omega (arith, c .before .get .ensures, c .kink-of .ensures, start .pre .1 .0 (c .before .before .tail-of .result), arc .kink-high)
+    omega (arith, c .before .get .ensures, c .kink-of .ensures, start .pre .1 .0 (tail-of .result), arc .kink-high)
 
 returns : tie.Need-returns
-returns c = 
+returns c =
     let start = c .before .before .before .before .before in
-    omega (arith, c .before .get .ensures, c .kink-of .ensures, ap (at (potentials (start .args .nodes .now))) (c .before .before .tail-of .ensures))
+    let tail-of = c .before .before .tail-of in
+    omega (arith, c .before .get .ensures, c .kink-of .ensures, ap (at (potentials (start .args .nodes .now))) (tail-of .ensures))
 
 pub asks-at-spec : {M : Type 1} → statement M
 asks-at-spec =

@@ -11,7 +11,7 @@ returns : tie.Need-returns
 returns c = search needs
 
 returns-2 : tie.Need-returns-2
-returns-2 c = 
+returns-2 c =
     let start = c .before in
     shown-where (ltb (start .args .less) (start .args .more))
     (λ e. (omega arith, ltb-true (start .args .less) (start .args .more) e))

@@ -20,7 +20,7 @@ returns-4 : tie.Need-returns-4
 returns-4 c = search needs
 
 returns-5 : tie.Need-returns-5
-returns-5 c = 
+returns-5 c =
     let start = c .before .before .before .before .before in
     shown-where (eqb (start .args .x) (start .args .low))
     (λ e. record {
@@ -31,7 +31,7 @@ returns-5 c =
     })
 
 returns-6 : tie.Need-returns-6
-returns-6 c = 
+returns-6 c =
     let start = c .before .before .before .before .before .before in
     shown-where (eqb (start .args .x) (start .args .high))
     (λ e. record {

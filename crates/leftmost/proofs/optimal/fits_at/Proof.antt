@@ -22,8 +22,13 @@ fit-requires : tie.Need-fit-requires
 fit-requires c κs = search needs
 
 returns : tie.Need-returns
-returns c = 
-    rw (c .before .before .before .before .before .stands-at .ensures, c .before .before .before .before .asks-at .ensures, c .before .before .before .flow-of .ensures, c .before .before .low-of .ensures, c .before .high-of .ensures) at (c .fit .ensures)
+returns c =
+    let stands-at = c .before .before .before .before .before .stands-at in
+    let asks-at = c .before .before .before .before .asks-at in
+    let flow-of = c .before .before .before .flow-of in
+    let low-of = c .before .before .low-of in
+    let high-of = c .before .high-of in
+    rw (stands-at .ensures, asks-at .ensures, flow-of .ensures, low-of .ensures, high-of .ensures) at (c .fit .ensures)
 
 pub fits-at-spec : {M : Type 1} → statement M
 fits-at-spec =

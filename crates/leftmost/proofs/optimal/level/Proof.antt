@@ -22,9 +22,13 @@ loop-holds : tie.Need-loop-holds Inv-loop μ-loop
 loop-holds c = (omega arith, c .count-of .ensures, below-none _)
 
 get-requires : tie.Need-get-requires Inv-loop μ-loop
-get-requires c κs = 
+get-requires c κs =
     let start = c .before .before .before .before in
-    (omega (arith, c .before .loop .inv .1, c .loop-test .taken), omega (arith, c .before .loop .inv .1, c .loop-test .taken, start .pre), omega arith)
+    let loop = c .before .loop in (
+      omega (arith, loop .inv .1, c .loop-test .taken),
+      omega (arith, loop .inv .1, c .loop-test .taken, start .pre),
+      omega arith,
+    )
 
 returns : tie.Need-returns Inv-loop μ-loop
 returns c = search needs
@@ -36,10 +40,14 @@ loop-less : tie.Need-loop-less Inv-loop μ-loop
 loop-less c = search needs
 
 loop-again : tie.Need-loop-again Inv-loop μ-loop
-loop-again c = (omega arith, c .before .before .before .loop .inv .1, below-more _ _ (c .before .before .before .loop .inv .2) (omega (arith, c .before .get .ensures, c .if1 .left)))
+loop-again c =
+    let loop = c .before .before .before .loop in
+    (omega arith, loop .inv .1, below-more _ _ (loop .inv .2) (omega (arith, c .before .get .ensures, c .if1 .left)))
 
 returns-2 : tie.Need-returns-2 Inv-loop μ-loop
-returns-2 c = record { each = λ v l. c .before .loop .inv .2 v (omega (arith, c .before .loop .inv .1, c .loop-test .left)) }
+returns-2 c =
+    let loop = c .before .loop in
+    record { each = λ v l. loop .inv .2 v (omega (arith, loop .inv .1, c .loop-test .left)) }
 
 pub level-spec : {M : Type 1} → statement M
 level-spec =

@@ -1,6 +1,6 @@
 -- `leftmost::optimal::optimal` meets its contract: the tests together show what is asked.
 use Rattle.leftmost.proofs.laws.Passes.{passes}
-use Rattle.leftmost.proofs.laws.Shown.{shown-yes, shown-map}
+use Rattle.leftmost.proofs.laws.Shown.{shown-past, shown-map}
 use Rattle.network.specs.laws.TestedAnswers.{tested-yes}
 use borrow.Author.Tests.{not-false}
 use borrow.Author.Needs.{needs}
@@ -20,9 +20,10 @@ returns : tie.Need-returns
 returns c = search needs
 
 all-fit-requires : tie.Need-all-fit-requires
-all-fit-requires c κs = 
+all-fit-requires c κs =
+    let start = c .before .before .before .before .before .before .before .before in
     let low-start = c .before .before .low-start in
-    (c .before .before .before .before .before .before .before .before .pre, tested-yes (low-start .result) (low-start .ensures) (not-false (low-start .result) (c .before .if1 .left)))
+    (start .pre, tested-yes (low-start .result) (low-start .ensures) (not-false (low-start .result) (c .before .if1 .left)))
 
 same-length-2 : tie.Need-same-length-2
 same-length-2 c = search needs
@@ -31,9 +32,11 @@ returns-2 : tie.Need-returns-2
 returns-2 c = search needs
 
 all-supported-requires : tie.Need-all-supported-requires
-all-supported-requires c κs = 
+all-supported-requires c κs =
+    let start = c .before .before .before .before .before .before .before .before .before .before .before in
     let low-start = c .before .before .before .before .before .low-start in
-    (c .before .before .before .before .before .before .before .before .before .before .before .pre, tested-yes (low-start .result) (low-start .ensures) (not-false (low-start .result) (c .before .before .before .before .if1 .left)))
+    let if1 = c .before .before .before .before .if1 in
+    (start .pre, tested-yes (low-start .result) (low-start .ensures) (not-false (low-start .result) (if1 .left)))
 
 same-length-3 : tie.Need-same-length-3
 same-length-3 c = search needs
@@ -42,9 +45,11 @@ returns-3 : tie.Need-returns-3
 returns-3 c = search needs
 
 count-need-requires : tie.Need-count-need-requires
-count-need-requires c κs = 
+count-need-requires c κs =
+    let start = c .before .before .before .before .before .before .before .before .before .before .before .before .before .before in
     let all-fit = c .before .before .before .before .before .all-fit in
-    (c .before .before .before .before .before .before .before .before .before .before .before .before .before .before .pre, λ i l. (shown-yes (all-fit .result) (all-fit .ensures) (not-false (all-fit .result) (c .before .before .before .before .if2 .left))) .each i l .counted)
+    let if2 = c .before .before .before .before .if2 in
+    (start .pre, λ i l. (shown-past (all-fit .result) (all-fit .ensures) (if2 .left)) .each i l .counted)
 
 level-requires : tie.Need-level-requires
 level-requires c κs = search needs
@@ -53,18 +58,21 @@ same-length-4 : tie.Need-same-length-4
 same-length-4 c = search needs
 
 returns-4 : tie.Need-returns-4
-returns-4 c = 
+returns-4 c =
     let start = c .before .before .before .before .before .before .before .before .before .before .before .before .before .before .before .before .before .before .before in
     let low-start = c .before .before .before .before .before .before .before .before .before .before .before .before .before .low-start in
+    let if1 = c .before .before .before .before .before .before .before .before .before .before .before .before .if1 in
     let all-fit = c .before .before .before .before .before .before .before .before .before .before .all-fit in
+    let if2 = c .before .before .before .before .before .before .before .before .before .if2 in
     let all-supported = c .before .before .before .before .before .before .before .all-supported in
+    let if3 = c .before .before .before .before .before .before .if3 in
     let count-need = c .before .before .before .before .count-need in
     let level = c .level in
     shown-map
     (passes (start .args .flows .now) (start .args .nodes .now) (count-need .last .1 .1 .0)
-    (tested-yes (low-start .result) (low-start .ensures) (not-false (low-start .result) (c .before .before .before .before .before .before .before .before .before .before .before .before .if1 .left)))
-    (shown-yes (all-fit .result) (all-fit .ensures) (not-false (all-fit .result) (c .before .before .before .before .before .before .before .before .before .if2 .left)))
-    (shown-yes (all-supported .result) (all-supported .ensures) (not-false (all-supported .result) (c .before .before .before .before .before .before .if3 .left)))
+    (tested-yes (low-start .result) (low-start .ensures) (not-false (low-start .result) (if1 .left)))
+    (shown-past (all-fit .result) (all-fit .ensures) (if2 .left))
+    (shown-past (all-supported .result) (all-supported .ensures) (if3 .left))
     (count-need .ensures .0) (count-need .ensures .1))
     (level .result) (level .ensures)
 

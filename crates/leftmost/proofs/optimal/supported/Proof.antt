@@ -15,7 +15,7 @@ supports-requires : tie.Need-supports-requires
 supports-requires c κs = search needs
 
 returns-2 : tie.Need-returns-2
-returns-2 c = 
+returns-2 c =
     shown-map (λ s. record { arc = _; arc-in = omega arith; by = s }) (c .supports .result) (c .supports .ensures)
 
 pub supported-spec : {M : Type 1} → statement M

@@ -31,7 +31,7 @@ get-requires : tie.Need-get-requires
 get-requires c κs = search needs
 
 get-requires-2 : tie.Need-get-requires-2
-get-requires-2 c κs = 
+get-requires-2 c κs =
     let start = c .before .before .before .before .before .before .before .before .before .before .before in
     let head-of = c .before .before .before .head-of in
     let arc = start .pre .0 .arc-in (start .args .i) (start .pre .1 .1 .1) in
@@ -44,22 +44,31 @@ both-less-requires : tie.Need-both-less-requires
 both-less-requires c κs = search needs
 
 returns-2 : tie.Need-returns-2
-returns-2 c = 
+returns-2 c =
     let start = c .before .before .before .before .before .before .before .before .before .before .before .before .before .before in
+    let asks-at = c .before .before .before .before .before .before .before .before .before .before .asks-at in
+    let stands-at = c .before .before .before .before .before .before .before .before .before .stands-at in
+    let if1 = c .before .before .before .before .before .before .before .before .if1 in
+    let tail-of = c .before .before .before .before .before .before .before .tail-of in
+    let head-of = c .before .before .before .before .before .before .head-of in
+    let flow-of = c .before .before .before .before .before .flow-of in
+    let get = c .before .before .before .before .get in
+    let if2 = c .before .before .before .if2 in
+    let get2 = c .before .before .get2 in
     let order = at (ranks (start .args .nodes .now)) in
     shown-map
     (λ b. record {
-      tight = omega (arith, c .before .before .before .before .before .before .before .before .before .before .asks-at .ensures, c .before .before .before .before .before .before .before .before .before .stands-at .ensures);
+      tight = omega (arith, asks-at .ensures, stands-at .ensures, if1 .left);
       ends = inl (
-        omega (arith, c .before .before .before .before .before .before .before .tail-of .ensures),
-        omega (arith, b .0, c .before .before .get2 .ensures, c .before .before .before .before .get .ensures, ap order (c .before .before .before .before .before .before .head-of .ensures)),
-        omega (arith, b .1, c .before .before .before .before .before .flow-of .ensures, c .before .high-of .ensures),
+        omega (arith, tail-of .ensures, if2 .taken),
+        omega (arith, b .0, get2 .ensures, get .ensures, ap order (head-of .ensures)),
+        omega (arith, b .1, flow-of .ensures, c .before .high-of .ensures),
       );
     })
     (c .both-less .result) (c .both-less .ensures)
 
 get-requires-3 : tie.Need-get-requires-3
-get-requires-3 c κs = 
+get-requires-3 c κs =
     let start = c .before .before .before .before .before .before .before .before .before .before .before .before in
     let tail-of = c .before .before .before .before .before .tail-of in
     let arc = start .pre .0 .arc-in (start .args .i) (start .pre .1 .1 .1) in
@@ -72,16 +81,25 @@ both-less-requires-2 : tie.Need-both-less-requires-2
 both-less-requires-2 c κs = search needs
 
 returns-3 : tie.Need-returns-3
-returns-3 c = 
+returns-3 c =
     let start = c .before .before .before .before .before .before .before .before .before .before .before .before .before .before .before in
+    let asks-at = c .before .before .before .before .before .before .before .before .before .before .before .asks-at in
+    let stands-at = c .before .before .before .before .before .before .before .before .before .before .stands-at in
+    let if1 = c .before .before .before .before .before .before .before .before .before .if1 in
+    let tail-of = c .before .before .before .before .before .before .before .before .tail-of in
+    let head-of = c .before .before .before .before .before .before .before .head-of in
+    let flow-of = c .before .before .before .before .before .before .flow-of in
+    let get = c .before .before .before .before .before .get in
+    let if3 = c .before .before .before .if3 in
+    let get3 = c .before .before .get3 in
     let order = at (ranks (start .args .nodes .now)) in
     shown-map
     (λ b. record {
-      tight = omega (arith, c .before .before .before .before .before .before .before .before .before .before .before .asks-at .ensures, c .before .before .before .before .before .before .before .before .before .before .stands-at .ensures);
+      tight = omega (arith, asks-at .ensures, stands-at .ensures, if1 .left);
       ends = inr (
-        omega (arith, c .before .before .before .before .before .before .before .head-of .ensures),
-        omega (arith, b .0, c .before .before .get3 .ensures, c .before .before .before .before .before .get .ensures, ap order (c .before .before .before .before .before .before .before .before .tail-of .ensures)),
-        omega (arith, b .1, c .before .before .before .before .before .before .flow-of .ensures, c .before .low-of .ensures),
+        omega (arith, head-of .ensures, if3 .taken),
+        omega (arith, b .0, get3 .ensures, get .ensures, ap order (tail-of .ensures)),
+        omega (arith, b .1, flow-of .ensures, c .before .low-of .ensures),
       );
     })
     (c .both-less2 .result) (c .both-less2 .ensures)

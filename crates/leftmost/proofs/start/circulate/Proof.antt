@@ -23,7 +23,7 @@ same-length-3 : tie.Need-same-length-3
 same-length-3 c = search needs
 
 returns : tie.Need-returns
-returns c = 
+returns c =
     let start = c .before .before .before .before .before .before .before .before .before .before .before .before .before .before .before .before .before .before .before .before .before .before .before in
     let least = c .before .before .before .before .before .before .before .before .before .before .before .before .before .before .before .before .before .least in
     let set = c .before .before .before .before .before .before .before .before .before .before .before .before .set-potentials in
