@@ -3,6 +3,7 @@
 
 pub mod cases;
 pub mod compare;
+pub mod count;
 pub mod damage;
 pub mod document;
 pub mod draft;

@@ -10,4 +10,4 @@ pub const MAX_GROUNDED: usize = MAX_NODES as usize + 1;
 pub const MAX_NODE_NUMBERS: usize = NODE_STRIDE * MAX_GROUNDED;
 
 // The room to solve in, with which solving is fast, for so many nodes and the arcs of a sheet.
-pub const MAX_ROOM: usize = 1 + 3 * MAX_GROUNDED + 2 * MAX_ARCS;
+pub const MAX_ROOM: usize = 8 + 4 * MAX_GROUNDED + 2 * MAX_ARCS;

@@ -1,7 +1,7 @@
 // A guess, taken where it shows itself to be the solution.
-use crate::guess::guess;
 use crate::optimal::optimal;
 use circulation::finish::finish;
+use guess::primal_dual::guess;
 ghost use lib.ListN.{length};
 ghost use Rattle.network.specs.Net.{net};
 ghost use Rattle.circulation.specs.Nodes.{size};

@@ -1,7 +1,6 @@
 // The leftmost least potentials of any network of packed arcs, and flows that show them to be least: the least solution of the
 // hard constraints, then a guess that shows itself to be right, else the circulation from the start.
 mod attempt;
-mod guess;
 mod optimal;
 mod start;
 
@@ -27,7 +26,7 @@ pub enum Answer {
 
 // Flows that balance, and the leftmost potentials of least cost, of as many arcs as there are flows. Each node has NODE_STRIDE
 // numbers, its potential first, and ground is the last node. room is to work in: it has a number or more for each node, and
-// solving is fast where it has 7 + 4 · nodes + 2 · arcs. What these slices hold at first is not looked at.
+// solving is fast where it has 8 + 4 · nodes + 2 · arcs. What these slices hold at first is not looked at.
 // Solved leaves the potentials relative to ground's, with 2^28 added, and 0 in the other numbers of the nodes and in room; which
 // flows it leaves is open. NoSolution is an answer and no refusal: no potentials that are not negative are feasible; room is 0,
 // flows and nodes are as they were. Malformed leaves all slices as they were.

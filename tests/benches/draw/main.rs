@@ -4,7 +4,6 @@
 //! the instructions of these calls.
 
 mod clock;
-mod count;
 mod measure;
 mod peer;
 mod sample;
@@ -16,6 +15,7 @@ use clock::Clock;
 use measure::{least, Drawn, ROUNDS};
 use peer::Peer;
 use sample::Sample;
+use strip_tests::count::millions;
 use strip_tests::kinds::{bad, full, panels, undrawn, with_nodes, Kind};
 use table::{cells, print_head, print_row};
 
@@ -63,20 +63,27 @@ fn print_tables() {
 
 /// Prints the table of drawing; sheets of full size have a row for all of them, too.
 fn print_drawn(clock: &Clock, full: &[Kind], others: &[Kind]) {
-    let mut peer = Peer::start();
-    if peer.is_none() {
+    let mut peers = Peer::start();
+    if peers.is_none() {
         println!("no peer: g++ or LEMON is missing");
     }
-    print_head(&["draw", "LEMON", "draw / LEMON"], "  million instructions");
-    let mut draw = |kind: &Kind| match &mut peer {
-        Some(peer) => Drawn::in_turn(clock, peer, &mut samples(kind)),
+    let heads = [
+        "draw",
+        "LEMON",
+        "LEMON, fast",
+        "draw / LEMON",
+        "/ LEMON, fast",
+    ];
+    print_head(&heads, "  million instructions");
+    let mut draw = |kind: &Kind| match &mut peers {
+        Some(peers) => Drawn::in_turn(clock, peers, &mut samples(kind)),
         None => Drawn::alone(clock, &mut samples(kind)),
     };
     let mut all = Drawn::default();
     for kind in full {
         let drawn = draw(kind);
         let count = kind.sheets.len() as f64;
-        let millions = count::millions(&kind.name).map(|millions| millions / count);
+        let millions = millions(&[&kind.name]).map(|millions| millions / count);
         print_times(&kind.name, &drawn, millions);
         all.extend(drawn);
     }
@@ -88,7 +95,10 @@ fn print_drawn(clock: &Clock, full: &[Kind], others: &[Kind]) {
 
 /// Prints a row of drawing, with the instructions for a sheet where they are counted.
 fn print_times(name: &str, drawn: &Drawn, millions: Option<f64>) {
-    let times = cells(&drawn.library, 1) + &cells(&drawn.peer, 1) + &cells(&drawn.ratios(), 2);
+    let peers = drawn.peers.each_ref();
+    let times = peers.map(|peer| cells(peer, 1)).concat();
+    let ratios = peers.map(|peer| cells(&drawn.ratios(peer), 2)).concat();
+    let times = cells(&drawn.library, 1) + &times + &ratios;
     let millions = millions.map_or("-".to_owned(), |millions| format!("{millions:.3}"));
     print_row(name, drawn.library.len(), &format!("{times}{millions:>9}"));
 }

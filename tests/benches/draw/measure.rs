@@ -24,33 +24,36 @@ pub fn least(
     times
 }
 
-/// The least microseconds for drawing each sheet, by the library and by the peer.
+/// The least microseconds for drawing each sheet, by the library and by the peer in both forms.
 #[derive(Default)]
 pub struct Drawn {
     pub library: Vec<f64>,
-    pub peer: Vec<f64>,
+    pub peers: [Vec<f64>; 2],
 }
 
 impl Drawn {
-    /// Both draw each sheet in turn, so that they meet the same load. Their totals must be equal.
+    /// All draw each sheet in turn, so that they meet the same load. Their totals must be equal.
     ///
     /// Each draws the sheet before once more first, untimed: then the caches are warm, and the branches
     /// are not learnt.
-    pub fn in_turn(clock: &Clock, peer: &mut Peer, samples: &mut [Sample]) -> Drawn {
+    pub fn in_turn(clock: &Clock, peers: &mut [Peer; 2], samples: &mut [Sample]) -> Drawn {
         let networks = samples.iter().map(|sample| Network::new(&sample.sheet()));
         let networks: Vec<Network> = networks.collect();
+        let never = vec![f64::INFINITY; samples.len()];
         let mut drawn = Drawn {
-            library: vec![f64::INFINITY; samples.len()],
-            peer: vec![f64::INFINITY; samples.len()],
+            library: never.clone(),
+            peers: [never.clone(), never],
         };
         for _ in 0..ROUNDS {
             for i in 0..samples.len() {
                 samples[i.saturating_sub(1)].draw();
                 let (time, total) = clock.time(|| samples[i].draw());
-                let (peer_time, peer_total) = peer.solve(&networks[i]);
-                assert_eq!(total.map(i64::from), Some(peer_total), "the peer's total");
                 drawn.library[i] = drawn.library[i].min(time);
-                drawn.peer[i] = drawn.peer[i].min(peer_time);
+                for (peer, times) in peers.iter_mut().zip(&mut drawn.peers) {
+                    let (time, bound) = peer.solve(&networks[i]);
+                    assert_eq!(total.map(i64::from), Some(bound), "the peer's total");
+                    times[i] = times[i].min(time);
+                }
             }
         }
         drawn
@@ -60,19 +63,21 @@ impl Drawn {
     pub fn alone(clock: &Clock, samples: &mut [Sample]) -> Drawn {
         Drawn {
             library: least(clock, samples, |sample| sample.draw().is_some()),
-            peer: Vec::new(),
+            peers: Default::default(),
         }
     }
 
-    /// The library's time divided by the peer's, for each sheet.
-    pub fn ratios(&self) -> Vec<f64> {
-        let pairs = self.library.iter().zip(&self.peer);
+    /// The library's time divided by that of a peer, for each sheet.
+    pub fn ratios(&self, peer: &[f64]) -> Vec<f64> {
+        let pairs = self.library.iter().zip(peer);
         pairs.map(|(library, peer)| library / peer).collect()
     }
 
     /// Takes the times of more sheets.
     pub fn extend(&mut self, more: Drawn) {
         self.library.extend(more.library);
-        self.peer.extend(more.peer);
+        for (times, more) in self.peers.iter_mut().zip(more.peers) {
+            times.extend(more);
+        }
     }
 }

@@ -1,4 +1,6 @@
-// The peer: solves the networks of sheets by LEMON's network simplex, and tells how long it takes.
+// The peer: solves the networks of sheets by LEMON's network simplex, and tells how long it takes. With the
+// argument `plain` it does so in the plainest form and with LEMON's own settings, else in the form and
+// with the settings that were the fastest of those tried.
 //
 // Standard input has one network after the other, in 32-bit numbers: how many nodes and arcs it has, and
 // for each arc its tail, its head, the least and the greatest flow, and the cost of each unit. Standard
@@ -9,6 +11,7 @@
 #include <algorithm>
 #include <cstdint>
 #include <cstdio>
+#include <cstring>
 #include <ctime>
 #include <limits>
 #include <vector>
@@ -49,14 +52,14 @@ int64_t now() {
     return int64_t(time.tv_sec) * 1000000000 + time.tv_nsec;
 }
 
-// The least cost of a circulation in the network, in the form that is the fastest of those tried.
+// The least cost of a circulation in the network.
 //
-// A flow of either sign without limits is two arcs. One with limits is one arc that carries the flow above
-// its least, and its ends get the least flow as a supply and a demand; in small networks the arc is turned
-// around. The arcs are not mixed.
-int64_t solve(const Network &network) {
+// In the plain form each flow of either sign is two arcs. In the fast form one with limits is one arc that
+// carries the flow above its least, and its ends get the least flow as a supply and a demand; in small
+// networks the arc is turned around and the pivot rule is another one. The arcs are not mixed.
+int64_t solve(const Network &network, bool is_plain) {
     const int nodes = network.nodes;
-    const bool is_small = nodes < FEW;
+    const bool is_small = !is_plain && nodes < FEW;
     const std::vector<Arc> &arcs = network.arcs;
     Graph graph;
     std::vector<int> capacities, costs, supplies(nodes);
@@ -74,9 +77,9 @@ int64_t solve(const Network &network) {
     for (const Arc &arc : arcs) {
         if (arc.least == 0) {
             add(arc.tail, arc.head, arc.greatest, arc.cost);
-        } else if (arc.least == -UNLIMITED) {
-            add(arc.tail, arc.head, UNLIMITED, arc.cost);
-            add(arc.head, arc.tail, UNLIMITED, -arc.cost);
+        } else if (is_plain || arc.least == -UNLIMITED) {
+            add(arc.tail, arc.head, arc.greatest, arc.cost);
+            add(arc.head, arc.tail, -arc.least, -arc.cost);
         } else {
             int tail = arc.tail, head = arc.head;
             if (is_small)
@@ -86,7 +89,7 @@ int64_t solve(const Network &network) {
             supplies[head] += arc.least;
         }
     }
-    Simplex simplex(graph, false);
+    Simplex simplex(graph, is_plain);
     simplex.upperMap(Numbers<Graph::Arc>{graph, capacities});
     simplex.costMap(Numbers<Graph::Arc>{graph, costs});
     simplex.supplyMap(Numbers<Graph::Node>{graph, supplies});
@@ -104,7 +107,8 @@ bool read(Network &network) {
     return std::fread(network.arcs.data(), sizeof(Arc), sizes[1], stdin) == size_t(sizes[1]);
 }
 
-int main() {
+int main(int count, char **arguments) {
+    const bool is_plain = count > 1 && std::strcmp(arguments[1], "plain") == 0;
     // what reading the clock takes
     int64_t reading = std::numeric_limits<int64_t>::max();
     for (int i = 0; i < 1000; i++) {
@@ -113,9 +117,9 @@ int main() {
     }
     Network network, before = {1, {}};
     while (read(network)) {
-        solve(before);
+        solve(before, is_plain);
         const int64_t start = now();
-        const int64_t cost = solve(network);
+        const int64_t cost = solve(network, is_plain);
         const int64_t answer[2] = {now() - start - reading, cost};
         std::fwrite(answer, sizeof answer, 1, stdout);
         std::fflush(stdout);

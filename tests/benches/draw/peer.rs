@@ -45,8 +45,8 @@ fn arc_numbers(arc: &Arc) -> [i32; 5] {
 }
 
 impl Peer {
-    /// Compiles and starts the peer, if g++ and LEMON are there.
-    pub fn start() -> Option<Peer> {
+    /// Compiles the peer and starts it in both forms, the plain one first, if g++ and LEMON are there.
+    pub fn start() -> Option<[Peer; 2]> {
         let mut probe = Command::new("g++");
         probe.args(["-E", "-include", "lemon/network_simplex.h", "-x", "c++"]);
         probe.arg("/dev/null").stdout(Stdio::null());
@@ -54,10 +54,16 @@ impl Peer {
         if !is_there.is_ok_and(|status| status.success()) {
             return None;
         }
-        let mut peer = Command::new(compiled());
-        peer.stdin(Stdio::piped()).stdout(Stdio::piped());
+        let path = compiled();
+        Some(["plain", "fast"].map(|form| Peer::of_form(&path, form)))
+    }
+
+    /// Starts the peer in a form.
+    fn of_form(path: &Path, form: &str) -> Peer {
+        let mut peer = Command::new(path);
+        peer.arg(form).stdin(Stdio::piped()).stdout(Stdio::piped());
         let process = peer.spawn().expect("the peer starts");
-        Some(Peer { process })
+        Peer { process }
     }
 
     /// The microseconds that the peer takes for a network, and the greatest bound, which is the total.

@@ -4,14 +4,14 @@ use std::env;
 use std::io::ErrorKind;
 use std::process::Command;
 
-/// Millions of instructions in all calls of `draw` when this program is run with an argument, if valgrind
+/// Millions of instructions in all calls of `draw` when this program is run with arguments, if valgrind
 /// is there.
-pub fn millions(argument: &str) -> Option<f64> {
+pub fn millions(arguments: &[&str]) -> Option<f64> {
     let program = env::current_exe().expect("the path of this program");
     let mut valgrind = Command::new("valgrind");
     valgrind.args(["--tool=callgrind", "--toggle-collect=strip_draw"]);
     valgrind.arg("--callgrind-out-file=/dev/null");
-    let output = match valgrind.arg(program).arg(argument).output() {
+    let output = match valgrind.arg(program).args(arguments).output() {
         Err(error) if error.kind() == ErrorKind::NotFound => return None,
         output => output.expect("valgrind runs"),
     };

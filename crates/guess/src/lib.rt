@@ -1,0 +1,13 @@
+// A guess of flows and potentials of a network of packed arcs, for a caller that tests it. Nothing is proved of a guess but that it ends
+// and stays within its slices: so this crate has no public call, only a module with the guess.
+mod augment;
+mod entries;
+mod labels;
+mod layout;
+pub mod primal_dual;
+mod scan;
+mod search;
+mod slots;
+mod sources;
+mod stacks;
+mod start;
