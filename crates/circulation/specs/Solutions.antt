@@ -1,5 +1,4 @@
--- What the call answers: flows and potentials of the network that the packed arcs are, and 0 in the room that was lent to
--- work in.
+-- What the call answers: flows and potentials of the network that the packed arcs are, and 0 in the other numbers of the nodes.
 use Prim.Native.Nat.{ℕ, _+_, _-_, _*_, _≤_, _<_}
 use mathlib.Core.Path.{_≡_}
 use mathlib.Core.List.{List}
@@ -33,13 +32,11 @@ pub record Solution (N : Net) (n : ℕ) (x p : ℕ → ℕ) : Type 0 where
   pub ground : p (n - 1) ≡ potential-zero
   pub bounded : (i : ℕ) → i < arcs N → x i ≤ high-none
 
--- the other numbers of each node are 0, what stands behind the last node is kept, and every number of chains is 0
-pub record Cleared (nodes₀ nodes chains₀ chains : List ℕ) : Type 0 where
+-- the other numbers of each node are 0, and what stands behind the last node is kept
+pub record Cleared (nodes₀ nodes : List ℕ) : Type 0 where
   pub nodes-size : length nodes ≡ length nodes₀
   pub others : (v k : ℕ) → v < size nodes₀ → 0 < k → k < node-stride → at nodes (node-stride * v + k) ≡ 0
   pub rest : (i : ℕ) → node-stride * size nodes₀ ≤ i → at nodes i ≡ at nodes₀ i
-  pub chains-size : length chains ≡ length chains₀
-  pub chains-zero : (i : ℕ) → at chains i ≡ 0
 
 -- what is found: a solution, or input that is not taken
 pub data Finding : Type 0 where
@@ -51,10 +48,10 @@ abbrev pub finding : Answer → Finding
 finding Solved = Finding.solved
 finding Malformed = Finding.malformed
 
--- what each finding says, with flows, nodes and chains before and after; which of the flows that make a solution is left open
-abbrev pub Means : (N : Net) (x₀ nodes₀ chains₀ x nodes chains : List ℕ) → Finding → Type 0
-Means N x₀ nodes₀ chains₀ x nodes chains Finding.solved =
-    Valid N (size nodes₀) (potentials nodes₀) × (length x ≡ length x₀) × Cleared nodes₀ nodes chains₀ chains
+-- what each finding says, with flows and nodes before and after; which of the flows that make a solution is left open
+abbrev pub Means : (N : Net) (x₀ nodes₀ x nodes : List ℕ) → Finding → Type 0
+Means N x₀ nodes₀ x nodes Finding.solved =
+    Valid N (size nodes₀) (potentials nodes₀) × (length x ≡ length x₀) × Cleared nodes₀ nodes
     × Solution N (size nodes₀) (at x) (at (potentials nodes))
-Means N x₀ nodes₀ chains₀ x nodes chains Finding.malformed =
-    (Valid N (size nodes₀) (potentials nodes₀) → ⊥) × (x ≡ x₀) × (nodes ≡ nodes₀) × (chains ≡ chains₀)
+Means N x₀ nodes₀ x nodes Finding.malformed =
+    (Valid N (size nodes₀) (potentials nodes₀) → ⊥) × (x ≡ x₀) × (nodes ≡ nodes₀)

@@ -1,4 +1,4 @@
-// What the call leaves: potentials relative to ground's, and 0 in the room that was lent to work in.
+// What the call leaves in the nodes: potentials relative to ground's, and 0 in their other numbers.
 use crate::layout::NODE_STRIDE;
 use crate::layout::POTENTIAL_ZERO;
 use crate::nodes::POTENTIAL;
@@ -6,24 +6,20 @@ use crate::nodes::count_of;
 use crate::nodes::fill;
 use crate::nodes::get;
 use crate::nodes::put;
-use network::clear;
 ghost use mathlib.Core.Path.{_≡_};
-ghost use Prim.Native.Nat.{ℕ, _≤_};
-ghost use Rattle.network.specs.Net.{at};
+ghost use Prim.Native.Nat.{_≤_};
 ghost use Rattle.circulation.specs.inside.Finish.{Grounded, Settled, Zeroed};
 ghost use Rattle.circulation.specs.Nodes.{«node-stride», potentials, size};
 ghost use Rattle.network.specs.Limits.{«most-nodes»};
 
 // Potentials relative to ground's, and every other number 0.
-pub fn finish(nodes: &mut [u32], chains: &mut [u32])
+pub fn finish(nodes: &mut [u32])
     requires { ⌜ Grounded (now nodes) ⌝ }
     ensures { λ _. ⌜ Settled (now (nodes .entry)) (now (nodes .exit)) ⌝ }
     ensures { λ _. ⌜ Zeroed node-stride (now (nodes .exit)) ⌝ }
-    ensures { λ _. ⌜ ((i : ℕ) → at (now (chains .exit)) i ≡ 0) ⌝ }
 {
     settle(nodes);
     clear_others(nodes);
-    clear(chains);
 }
 
 // Potentials relative to ground's, with POTENTIAL_ZERO added.

@@ -5,10 +5,8 @@ use crate::arc::high_of;
 use crate::arc::kink_of;
 use crate::arc::low_of;
 use crate::arc::tail_of;
-use crate::hints::next_hint;
 use crate::nodes::POTENTIAL;
 use crate::nodes::RANK;
-use crate::nodes::count_of;
 use crate::nodes::get;
 use network::layout::KINK_ZERO;
 ghost use Prim.Native.Nat.{_<_};
@@ -62,7 +60,23 @@ pub fn gap_at(arcs: &[u32], flows: &[u32], nodes: &[u32], i: usize) -> usize
     distance(asks, stands, low_of(arcs, i), x)
 }
 
-// The crossing arc of the least step.
+// The first arc from start on whose step is 0; else a number that is no arc.
+fn on_kink(arcs: &[u32], flows: &[u32], nodes: &[u32], start: usize) -> usize
+    requires { ⌜ Ready (net (now arcs) (length (now flows))) (potentials (now nodes)) (now flows) (ranks (now nodes)) ⌝ }
+    ensures { λ r. ⌜ (r < length (now (flows .entry)) → GapAt (net (now (arcs .entry)) (length (now (flows .entry))))
+        (at (potentials (now (nodes .entry)))) (at (now (flows .entry))) (at (ranks (now (nodes .entry)))) r 0) ⌝ }
+{
+    let mut i = start;
+    while i < flows.len() {
+        if gap_at(arcs, flows, nodes, i) == 0 {
+            return i;
+        }
+        i += 1;
+    }
+    i
+}
+
+// The crossing arc of the least step; none is less than 0.
 fn nearest(arcs: &[u32], flows: &[u32], nodes: &[u32]) -> usize
     requires { ⌜ Ready (net (now arcs) (length (now flows))) (potentials (now nodes)) (now flows) (ranks (now nodes)) ⌝ }
     requires { ⌜ CrossingAt (net (now arcs) (length (now flows))) (now flows) (now nodes) ⌝ }
@@ -74,6 +88,9 @@ fn nearest(arcs: &[u32], flows: &[u32], nodes: &[u32]) -> usize
     let mut i = 0;
     while i < flows.len() {
         let r = gap_at(arcs, flows, nodes, i);
+        if r == 0 {
+            return i;
+        }
         if r < best {
             best = r;
             arc = i;
@@ -83,37 +100,14 @@ fn nearest(arcs: &[u32], flows: &[u32], nodes: &[u32]) -> usize
     arc
 }
 
-// A crossing arc that is on its kink, where the hints offer one; else a number that is no arc.
-fn propose(arcs: &[u32], flows: &[u32], nodes: &[u32], chains: &mut [u32]) -> usize
-    requires { ⌜ Ready (net (now arcs) (length (now flows))) (potentials (now nodes)) (now flows) (ranks (now nodes)) ⌝ }
-    ensures { λ r. ⌜ (r < length (now (flows .entry)) → GapAt (net (now (arcs .entry)) (length (now (flows .entry))))
-        (at (potentials (now (nodes .entry)))) (at (now (flows .entry))) (at (ranks (now (nodes .entry)))) r 0) ⌝ }
-{
-    let n = count_of(nodes);
-    let mut left: usize = 65536;
-    while left > 0 {
-        let i = next_hint(chains, n);
-        if i > NEVER {
-            return flows.len();
-        }
-        if i < flows.len() {
-            if gap_at(arcs, flows, nodes, i) == 0 {
-                return i;
-            }
-        }
-        left -= 1;
-    }
-    flows.len()
-}
-
-// The crossing arc of the least step: one that is proposed, or found by a scan.
-pub fn choose(arcs: &[u32], flows: &[u32], nodes: &[u32], chains: &mut [u32]) -> usize
+// The crossing arc of the least step: one from start on that is on its kink, or found by a scan.
+pub fn choose(arcs: &[u32], flows: &[u32], nodes: &[u32], start: usize) -> usize
     requires { ⌜ Ready (net (now arcs) (length (now flows))) (potentials (now nodes)) (now flows) (ranks (now nodes)) ⌝ }
     requires { ⌜ CrossingAt (net (now arcs) (length (now flows))) (now flows) (now nodes) ⌝ }
     ensures { λ r. ⌜ Nearest (net (now (arcs .entry)) (length (now (flows .entry)))) (length (now (flows .entry)))
         (at (potentials (now (nodes .entry)))) (at (now (flows .entry))) (at (ranks (now (nodes .entry)))) r ⌝ }
 {
-    let i = propose(arcs, flows, nodes, chains);
+    let i = on_kink(arcs, flows, nodes, start);
     if i < flows.len() {
         return i;
     }

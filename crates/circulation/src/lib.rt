@@ -4,7 +4,6 @@ pub mod arc;
 mod augment;
 pub mod finish;
 mod gap;
-mod hints;
 pub mod input;
 pub mod layout;
 pub mod limits;
@@ -15,7 +14,6 @@ pub mod start;
 
 use crate::augment::augment;
 use crate::finish::finish;
-use crate::hints::link_all;
 use crate::input::arcs_taken;
 use crate::input::valid;
 use crate::layout::NODE_STRIDE;
@@ -25,8 +23,6 @@ use crate::search::search;
 use crate::search::source;
 use crate::start::count_need;
 use crate::start::saturate;
-ghost use mathlib.Core.Path.{_≡_};
-ghost use Prim.Native.Nat.{ℕ};
 ghost use lib.ListN.{length};
 ghost use Rattle.circulation.specs.inside.Finish.{Zeroed};
 ghost use Rattle.circulation.specs.inside.Steps.{Ends};
@@ -55,46 +51,44 @@ pub fn takes(arcs: &[u32], count: usize, nodes: usize) -> bool
     arcs_taken(arcs, count, nodes)
 }
 
-// Flows that balance, and the leftmost potentials of least cost, from the potentials in nodes; its other numbers are room
-// to work in. chains is room for hints: fast where it has 1 + 3 · nodes + 2 · arcs numbers, slower where it is shorter.
-// At the end the potentials are relative to ground's, with 2^28 added, and all room is 0. Which flows it leaves is open: any
-// that are allowed, balanced and in complementary slackness with the potentials. Malformed leaves all slices as they were.
-pub fn solve(arcs: &[u32], flows: &mut [u32], nodes: &mut [u32], chains: &mut [u32]) -> Answer
-    ensures { λ r. ⌜ Means (net (now (arcs .entry)) (length (now (flows .entry)))) (now (flows .entry)) (now (nodes .entry)) (now (chains .entry)) (now (flows .exit)) (now (nodes .exit)) (now (chains .exit)) (finding r) ⌝ }
+// Flows that balance, and the leftmost potentials of least cost, from the potentials in nodes; its other numbers are room to
+// work in. At the end the potentials are relative to ground's, with 2^28 added, and the other numbers are 0. Which flows it leaves
+// is open: any that are allowed, balanced and in complementary slackness with the potentials. Malformed leaves both slices as they
+// were.
+pub fn solve(arcs: &[u32], flows: &mut [u32], nodes: &mut [u32]) -> Answer
+    ensures { λ r. ⌜ Means (net (now (arcs .entry)) (length (now (flows .entry)))) (now (flows .entry)) (now (nodes .entry)) (now (flows .exit)) (now (nodes .exit)) (finding r) ⌝ }
 {
     if !valid(arcs, nodes, flows.len()) {
         return Answer::Malformed;
     }
     let end = NODE_STRIDE * count_of(nodes);
-    whole(arcs, flows, &mut nodes[0..end], chains);
+    whole(arcs, flows, &mut nodes[0..end]);
     Answer::Solved
 }
 
 // Solves a valid network, where nothing stands behind the last node.
-fn whole(arcs: &[u32], flows: &mut [u32], nodes: &mut [u32], chains: &mut [u32])
+fn whole(arcs: &[u32], flows: &mut [u32], nodes: &mut [u32])
     requires { ⌜ Valid (net (now arcs) (length (now flows))) (size (now nodes)) (potentials (now nodes)) ⌝ }
     ensures { λ _. ⌜ Solution (net (now (arcs .entry)) (length (now (flows .entry)))) (size (now (nodes .entry))) (at (now (flows .exit))) (at (potentials (now (nodes .exit)))) ⌝ }
     ensures { λ _. ⌜ Zeroed node-stride (now (nodes .exit)) ⌝ }
-    ensures { λ _. ⌜ ((i : ℕ) → at (now (chains .exit)) i ≡ 0) ⌝ }
 {
-    run(arcs, flows, nodes, chains);
-    flood(arcs, flows, nodes, chains);
-    finish(nodes, chains);
+    run(arcs, flows, nodes);
+    flood(arcs, flows, nodes);
+    finish(nodes);
 }
 
 // The method: moves what is needed until nothing is.
-fn run(arcs: &[u32], flows: &mut [u32], nodes: &mut [u32], chains: &mut [u32])
+fn run(arcs: &[u32], flows: &mut [u32], nodes: &mut [u32])
     requires { ⌜ Valid (net (now arcs) (length (now flows))) (size (now nodes)) (potentials (now nodes)) ⌝ }
     ensures { λ _. ⌜ Ends (net (now (arcs .entry)) (length (now (flows .entry)))) (size (now (nodes .entry))) (now (flows .exit)) (now (nodes .exit)) ⌝ }
 {
-    link_all(arcs, chains, count_of(nodes), flows.len());
     saturate(arcs, flows, nodes);
     count_need(arcs, flows, nodes);
     loop {
         let Found::At(s) = source(nodes) else {
             return;
         };
-        let t = search(arcs, flows, nodes, chains, s);
+        let t = search(arcs, flows, nodes, s);
         augment(arcs, flows, nodes, s, t);
     }
 }

@@ -7,8 +7,6 @@ use crate::arc::low_of;
 use crate::arc::tail_of;
 use crate::gap::choose;
 use crate::gap::gap_at;
-use crate::hints::opened;
-use crate::hints::restart;
 use crate::nodes::NEED;
 use crate::nodes::NEED_ZERO;
 use crate::nodes::PARENT;
@@ -49,28 +47,29 @@ pub fn source(nodes: &[u32]) -> Found
     Found::Nothing
 }
 
-// Reaches nodes from s on until one has something to spare.
-pub fn search(arcs: &[u32], flows: &[u32], nodes: &mut [u32], chains: &mut [u32], s: usize) -> usize
+// Reaches nodes from s on until one has something to spare. Each time the next arc is looked for from the last one on.
+pub fn search(arcs: &[u32], flows: &[u32], nodes: &mut [u32], s: usize) -> usize
     requires { ⌜ StateAt (net (now arcs) (length (now flows))) (now flows) (now nodes) ⌝ }
     requires { ⌜ (s < size (now nodes)) × (need-zero < at (needs (now nodes)) s) ⌝ }
     ensures { λ t. ⌜ Searches (net (now (arcs .entry)) (length (now (flows .entry)))) s
         (now (flows .entry)) (now (nodes .entry)) (now (nodes .exit)) t ⌝ }
 {
     let room = get(nodes, s, NEED) - NEED_ZERO;
-    restart(chains, count_of(nodes), s);
     begin(nodes, s, room);
     let mut count = 1;
+    let mut start = 0;
     loop {
-        let v = extend(arcs, flows, nodes, chains, s, count);
+        let v = extend(arcs, flows, nodes, start, s, count);
         if get(nodes, v, NEED) < NEED_ZERO {
             return v;
         }
+        start = get(nodes, v, PARENT);
         count += 1;
     }
 }
 
-// Reaches every node from the ground.
-pub fn flood(arcs: &[u32], flows: &[u32], nodes: &mut [u32], chains: &mut [u32])
+// Reaches every node from the ground, in the same way.
+pub fn flood(arcs: &[u32], flows: &[u32], nodes: &mut [u32])
     requires { ⌜ StateAt (net (now arcs) (length (now flows))) (now flows) (now nodes) ⌝ }
     requires { ⌜ Rooted (net (now arcs) (length (now flows))) (size (now nodes)) ⌝ }
     ensures { λ _. ⌜ Flooded (net (now (arcs .entry)) (length (now (flows .entry)))) (size (now (nodes .entry)))
@@ -78,11 +77,12 @@ pub fn flood(arcs: &[u32], flows: &[u32], nodes: &mut [u32], chains: &mut [u32])
 {
     let n = count_of(nodes);
     let g = n - 1;
-    restart(chains, n, g);
     begin(nodes, g, 1);
     let mut count = 1;
+    let mut start = 0;
     while count < n {
-        extend(arcs, flows, nodes, chains, g, count);
+        let v = extend(arcs, flows, nodes, start, g, count);
+        start = get(nodes, v, PARENT);
         count += 1;
     }
 }
@@ -97,12 +97,13 @@ fn begin(nodes: &mut [u32], s: usize, room: usize)
     put(nodes, s, ROOM, room);
 }
 
-// Reaches one node more, over the arc of the least step, and moves the potentials so that this arc is on its kink.
+// Reaches one node more, over the arc of the least step, and moves the potentials so that this arc is on its kink. An arc from start
+// on that is there already is the first choice.
 fn extend(
     arcs: &[u32],
     flows: &[u32],
     nodes: &mut [u32],
-    chains: &mut [u32],
+    start: usize,
     s: usize,
     count: usize,
 ) -> usize
@@ -111,13 +112,12 @@ fn extend(
     ensures { λ v. ⌜ Extended (net (now (arcs .entry)) (length (now (flows .entry)))) s count
         (now (flows .entry)) (now (nodes .entry)) (now (nodes .exit)) v ⌝ }
 {
-    let i = choose(arcs, flows, nodes, chains);
+    let i = choose(arcs, flows, nodes, start);
     let d = gap_at(arcs, flows, nodes, i);
     raise_reached(nodes, d);
     let v = far(arcs, nodes, i);
     let room = room_over(arcs, flows, nodes, i, v);
     reach(nodes, v, count + 1, i, room);
-    opened(chains, count_of(nodes), v);
     v
 }
 

@@ -8,7 +8,7 @@ use Rattle.network.specs.Network.{Network, Feasible, integers}
 use Rattle.network.specs.Net.{at, Net, meant}
 use Rattle.circulation.specs.Nodes.{size, potentials}
 use Rattle.circulation.specs.Input.{ArcsTaken}
-use Rattle.circulation.specs.Solutions.{Solution, Cleared}
+use Rattle.circulation.specs.Solutions.{Solution, Cleared as NodesCleared}
 use Rattle.leftmost.specs.declared.Answer.{Answer}
 use Rattle.leftmost.specs.declared.Answer.the-variants.{Solved, NoSolution, Malformed}
 
@@ -26,6 +26,11 @@ pub record SomeFeasible (M : Network) : Type 0 where
 pub record Zeros (old new : List ℕ) : Type 0 where
   pub size : length new ≡ length old
   pub zero : (i : ℕ) → at new i ≡ 0
+
+-- the other numbers of each node are 0, what stands behind the last node is kept, and every number of room is 0
+pub record Cleared (nodes₀ nodes room₀ room : List ℕ) : Type 0 where
+  pub in-nodes : NodesCleared nodes₀ nodes
+  pub in-room : Zeros room₀ room
 
 -- what is found: the leftmost least potentials; that none are feasible, an answer and no refusal; or input that is not taken
 pub data Finding : Type 0 where

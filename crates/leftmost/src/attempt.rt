@@ -2,6 +2,7 @@
 use crate::optimal::optimal;
 use circulation::finish::finish;
 use guess::primal_dual::guess;
+use network::clear;
 ghost use lib.ListN.{length};
 ghost use Rattle.network.specs.Net.{net};
 ghost use Rattle.circulation.specs.Nodes.{size};
@@ -19,6 +20,7 @@ pub fn attempt(arcs: &[u32], flows: &mut [u32], nodes: &mut [u32], room: &mut [u
     if !optimal(arcs, flows, nodes) {
         return false;
     }
-    finish(nodes, room);
+    finish(nodes);
+    clear(room);
     true
 }

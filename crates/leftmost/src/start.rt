@@ -1,6 +1,7 @@
 // The circulation from the least solution of the hard constraints.
 use circulation::layout::NODE_STRIDE;
 use difference::least;
+use network::clear;
 ghost use mathlib.Core.Path.{_≡_};
 ghost use Prim.Native.Nat.{_*_, _≤_};
 ghost use lib.ListN.{length};
@@ -19,7 +20,8 @@ pub fn circulate(arcs: &[u32], flows: &mut [u32], nodes: &mut [u32], room: &mut 
     let count = nodes.len() / NODE_STRIDE;
     let start = least(arcs, flows.len(), count, room);
     set_potentials(room, count, nodes);
-    let answer = circulation::solve(arcs, flows, nodes, room);
+    let answer = circulation::solve(arcs, flows, nodes);
+    clear(room);
 }
 
 // The potentials to start from, in the nodes.

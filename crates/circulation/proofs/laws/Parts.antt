@@ -3,7 +3,7 @@ use Rattle.network.specs.Net.{at, Net}
 use Rattle.circulation.specs.laws.Columns.{column-length, column-at}
 use Rattle.circulation.specs.Nodes.{column, potentials, size, node-stride}
 use Rattle.circulation.specs.Input.{Valid}
-use Rattle.circulation.specs.Solutions.{Finding, Solution, Cleared, Means}
+use Rattle.circulation.specs.Solutions.{Solution, Cleared}
 use Rattle.circulation.specs.inside.Finish.{Zeroed}
 use mathlib.Core.Path.{_≡_, sym, ap, _∙_, subst}
 use mathlib.Core.List.{List, _++_}
@@ -86,36 +86,24 @@ module _ (nodes₀ : List ℕ) (end : ℕ) (is-end : end ≡ node-stride * size 
     pub behind-kept : (i : ℕ) → node-stride * size nodes₀ ≤ i → at (w ++ postOf 0 (end - 0) nodes₀) i ≡ at nodes₀ i
     behind-kept i past = rw (post-is 0 end nodes₀ (omega arith)) (kept i past)
 
-    -- the room is 0, and what is behind is kept
-    cleared : {chains₀ chains : List ℕ} → Zeroed node-stride w → length chains ≡ length chains₀
-        → ((i : ℕ) → at chains i ≡ 0) → Cleared nodes₀ (w ++ drop end nodes₀) chains₀ chains
-    cleared z chains-same zeros = record {
+    -- the other numbers are 0, and what is behind is kept
+    cleared : Zeroed node-stride w → Cleared nodes₀ (w ++ drop end nodes₀)
+    cleared z = record {
       nodes-size = omega (arith, length-append w (drop end nodes₀), length-drop end nodes₀, front-length);
       others =
           λ v k v-in some k-in. List·getD-append w (drop end nodes₀) 0 (node-stride * v + k) (omega (arith, front-length))
           ∙ (sym (column-at k w v (omega (arith, front-length))) ∙ z .zero k v some k-in);
       rest = kept;
-      chains-size = chains-same;
-      chains-zero = zeros;
     }
 
     -- the whole, from what the front holds
-    pub whole-back : {N : Net} (x chains₀ chains : List ℕ) → length chains ≡ length chains₀
-        → Solution N (size (take (end - 0) nodes₀)) (at x) (at (potentials w)) → Zeroed node-stride w → ((i : ℕ) → at chains i ≡ 0)
-        → Cleared nodes₀ (w ++ postOf 0 (end - 0) nodes₀) chains₀ chains
+    pub whole-back : {N : Net} (x : List ℕ) → Solution N (size (take (end - 0) nodes₀)) (at x) (at (potentials w))
+        → Zeroed node-stride w
+        → Cleared nodes₀ (w ++ postOf 0 (end - 0) nodes₀)
         × Solution N (size nodes₀) (at x) (at (potentials (w ++ postOf 0 (end - 0) nodes₀)))
-    whole-back {N} x chains₀ chains chains-same s z zeros =
+    whole-back {N} x s z =
         rw (post-is 0 end nodes₀ (omega arith)) (
-          cleared z chains-same zeros,
+          cleared z,
           subst (λ (p : List ℕ). Solution N (size nodes₀) (at x) (at p)) (sym back-potentials)
               (subst (λ (n : ℕ). Solution N n (at x) (at (potentials w))) front-size s),
         )
-
-    -- the answer
-    pub solved-back : {N : Net} (x₀ x chains₀ chains : List ℕ) → Valid N (size nodes₀) (potentials nodes₀)
-        → length x ≡ length x₀ → length chains ≡ length chains₀
-        → Solution N (size (take (end - 0) nodes₀)) (at x) (at (potentials w)) → Zeroed node-stride w → ((i : ℕ) → at chains i ≡ 0)
-        → Means N x₀ nodes₀ chains₀ x (w ++ postOf 0 (end - 0) nodes₀) chains Finding.solved
-    solved-back {N} x₀ x chains₀ chains v x-same chains-same s z zeros =
-        let back = whole-back x chains₀ chains chains-same s z zeros in
-        (v, x-same, back .0, back .1)

@@ -2,7 +2,7 @@
 use Rattle.network.specs.Net.{at, Net, arcs, tail, head, low, high}
 use Rattle.circulation.specs.inside.Slackness.{pick}
 use Rattle.circulation.specs.Input.{Limited}
-use Rattle.circulation.specs.Nodes.{potentials, needs, ranks, parents, rooms, node-stride}
+use Rattle.circulation.specs.Nodes.{potentials, needs, ranks, parents, rooms, size, node-stride}
 use Rattle.circulation.specs.inside.Stores.{Apart, Reaches}
 use Rattle.circulation.specs.inside.Search.{RoomOver, Moved, step, surplus, State, Amount, Walked}
 use Rattle.circulation.specs.inside.Steps.{Nearest, GrownAt, ReachedAt, Extends, Extended, Augments}
@@ -17,6 +17,7 @@ use Rattle.circulation.specs.laws.Columns.{column-length}
 use Rattle.circulation.proofs.laws.Trees.{extends}
 use Rattle.circulation.proofs.laws.Augmented.{augmented, less-left}
 use Rattle.network.specs.Packed.{high-none}
+use Rattle.network.specs.Limits.{most-nodes}
 
 -- a high limit is at most 2^29
 pub high-top : {N : Net} {i : ℕ} → Limited N → i < arcs N → high N i ≤ high-none
@@ -78,6 +79,15 @@ module _ {N : Net} {s count : ℕ} {x nodes : List ℕ} (g : GrownAt N s count x
         ap (λ (l : List ℕ). at l s) (h .rooms-set)
         ∙ (getD-set-other (rooms one) v s r 0 (λ e. ext .v-root (sym e)) ∙ ap (λ (l : List ℕ). at l s) same-rooms);
   }
+
+-- the node that is reached is there, and so is number k of it
+pub new-there : {N : Net} {s count v k : ℕ} {x old new : List ℕ} → GrownAt N s count x old → Extended N s count x old new v
+    → k < node-stride → (v < size new) × (v < most-nodes) × (k < node-stride)
+new-there {old = old} g e k-in = (
+  omega (arith, e .extends .v-in, column-length 0 old, e .length-same),
+  omega (arith, e .extends .v-in, g .ready .wf .nodes),
+  k-in,
+)
 
 -- a walk, and the needs of its ends counted
 pub augments : {N : Net} {s t d : ℕ} {x₀ x nodes : List ℕ} (new : List ℕ) → ReachedAt N s t x₀ nodes → Amount s t d (at (needs nodes)) (at (rooms nodes))

@@ -4,13 +4,12 @@ use Rattle.circulation.specs.inside.Search.{State, surplus}
 use Rattle.circulation.specs.Nodes.{size, column, potentials, node-stride}
 use Rattle.network.specs.Net.{net, at}
 use Rattle.circulation.specs.inside.Slackness.{Balanced}
-use Rattle.network.specs.WellFormed.{WellFormed}
 use Rattle.circulation.proofs.laws.Searches.{solved}
 use Rattle.circulation.proofs.laws.Starts.{first-near, run-start}
 use Rattle.circulation.specs.laws.Columns.{column-length}
 use lib.ListN.{length}
 use mathlib.Core.List.{List}
-use mathlib.Core.Path.{_≡_, refl, subst, sym, ap, _∙_}
+use mathlib.Core.Path.{_≡_, refl, subst, ap, _∙_}
 use Prim.Native.Nat.{ℕ, _/_}
 use native.Mathlib.Omega.{arith}
 use borrow.Author.Needs.{needs}
@@ -18,31 +17,21 @@ use Rattle.circulation.proofs.run.Statement.{statement}
 use Rattle.circulation.proofs.run.Tie as tie
 
 abbrev Inv-loop : tie.InvT-loop
-Inv-loop arcs flows₀ nodes₀ chains₀ flows nodes chains =
+Inv-loop arcs flows₀ nodes₀ flows nodes =
     State (net arcs (length flows₀)) (potentials nodes) flows (column 1 nodes)
     × (length nodes ≡ length nodes₀)
-    × (length chains ≡ length chains₀)
 
 abbrev μ-loop : tie.MeasureT-loop
-μ-loop arcs flows₀ nodes₀ chains₀ flows nodes chains = surplus (length nodes₀ / node-stride) (at (column 1 nodes))
-
-count-of-requires : tie.Need-count-of-requires Inv-loop μ-loop
-count-of-requires c κs = search needs
-
-link-all-requires : tie.Need-link-all-requires Inv-loop μ-loop
-link-all-requires c κs =
-    let start = c .before .before .before .before .before .before .before in
-    subst (λ (n : ℕ). WellFormed (net (start .args .arcs .now) (length (start .args .flows .now))) n)
-    (sym (c .count-of .ensures)) (start .pre .wf)
+μ-loop arcs flows₀ nodes₀ flows nodes = surplus (length nodes₀ / node-stride) (at (column 1 nodes))
 
 saturate-requires : tie.Need-saturate-requires Inv-loop μ-loop
 saturate-requires c κs =
-    let start = c .before .before .before .before .before .before .before .before .before .before .before .before in
+    let start = c .before .before .before .before .before in
     start .pre
 
 count-need-requires : tie.Need-count-need-requires Inv-loop μ-loop
 count-need-requires c κs =
-    let start = c .before .before .before .before .before .before .before .before .before .before .before .before .before .before .before .before .before in
+    let start = c .before .before .before .before .before .before .before .before .before .before in
     let saturate = c .before .before .before .before .saturate in (
       rw (saturate .kept .1 .0) (start .pre .wf),
       λ i l.
@@ -53,13 +42,12 @@ count-need-requires c κs =
 
 loop-holds : tie.Need-loop-holds Inv-loop μ-loop
 loop-holds c =
-    let start = c .before .before .before .before .before .before .before .before .before .before .before .before .before .before .before .before .before .before .before .before in
+    let start = c .before .before .before .before .before .before .before .before .before .before .before .before .before in
     let saturate = c .before .before .before .before .before .before .before .saturate in
     let count-need = c .before .before .count-need in (
       run-start (start .args .arcs .now) (start .args .flows .now) (saturate .last .1 .0) (start .args .nodes .now)
           (count-need .last .1 .1 .0) (start .pre) (saturate .kept .1 .0) (saturate .ensures) (count-need .ensures .0)
           (count-need .ensures .1),
-      refl,
       refl,
     )
 
@@ -84,15 +72,9 @@ same-length-2 c =
     let loop = c .before .before .before .before .loop in
     loop .inv .1 ∙ count-need .ensures .1 .length-same
 
-same-length-3 : tie.Need-same-length-3 Inv-loop μ-loop
-same-length-3 c =
-    let link-all = c .before .before .before .before .before .before .before .before .before .before .before .before .before .before .before .before .before .link-all in
-    let loop = c .before .before .before .before .loop in
-    loop .inv .2 ∙ link-all .kept .1 .0
-
 returns : tie.Need-returns Inv-loop μ-loop
 returns c =
-    let start = c .before .before .before .before .before .before .before .before .before .before .before .before .before .before .before .before .before .before .before .before .before .before .before .before .before in
+    let start = c .before .before .before .before .before .before .before .before .before .before .before .before .before .before .before .before .before .before in
     let saturate = c .before .before .before .before .before .before .before .before .before .before .before .before .saturate in
     let count-need = c .before .before .before .before .before .before .before .count-need in
     let loop = c .before .before .before .before .loop in
@@ -109,21 +91,21 @@ returns c =
 
 search-requires : tie.Need-search-requires Inv-loop μ-loop
 search-requires c κs =
-    let loop = c .before .before .before .before .before .before .before .before .loop in
-    let source = c .before .before .before .before .before .before .source in
-    let s = c .before .before .before .before .s in (
+    let loop = c .before .before .before .before .before .before .before .loop in
+    let source = c .before .before .before .before .before .source in
+    let s = c .before .before .before .s in (
       rw (loop .inv .0 .x-size) (loop .inv .0),
       ((rw (s .given .1) at (source .ensures)) .0, (rw (s .given .1) at (source .ensures)) .1),
     )
 
 augment-requires : tie.Need-augment-requires Inv-loop μ-loop
-augment-requires c κs = c .before .before .before .before .before .before .search .ensures .reached
+augment-requires c κs = c .before .before .before .before .search .ensures .reached
 
 loop-less : tie.Need-loop-less Inv-loop μ-loop
 loop-less c =
-    let count-need = c .before .before .before .before .before .before .before .before .before .before .before .before .before .before .before .before .before .before .before .before .before .before .before .count-need in
-    let loop = c .before .before .before .before .before .before .before .before .before .before .before .before .before .before .before .before .before .before .before .before .loop in
-    let search = c .before .before .before .before .before .before .before .before .before .before .before .search in
+    let count-need = c .before .before .before .before .before .before .before .before .before .before .before .before .before .before .before .before .before .before .before .before .count-need in
+    let loop = c .before .before .before .before .before .before .before .before .before .before .before .before .before .before .before .before .before .loop in
+    let search = c .before .before .before .before .before .before .before .before .before .search in
     let augment = c .before .before .before .before .augment in
     omega (
       arith,
@@ -137,16 +119,15 @@ loop-less c =
 
 loop-again : tie.Need-loop-again Inv-loop μ-loop
 loop-again c =
-    let start = c .before .before .before .before .before .before .before .before .before .before .before .before .before .before .before .before .before .before .before .before .before .before .before .before .before .before .before .before .before .before .before .before .before .before .before .before .before .before .before .before .before in
-    let loop = c .before .before .before .before .before .before .before .before .before .before .before .before .before .before .before .before .before .before .before .before .loop in
-    let search = c .before .before .before .before .before .before .before .before .before .before .before .search in
+    let start = c .before .before .before .before .before .before .before .before .before .before .before .before .before .before .before .before .before .before .before .before .before .before .before .before .before .before .before .before .before .before .before in
+    let loop = c .before .before .before .before .before .before .before .before .before .before .before .before .before .before .before .before .before .loop in
+    let search = c .before .before .before .before .before .before .before .before .before .search in
     let augment = c .before .before .before .before .augment in (
       subst
           (λ (m : ℕ). State (net (start .args .arcs .now) m) (potentials (augment .last .1 .1 .0)) (augment .last .1 .0)
           (column 1 (augment .last .1 .1 .0)))
           (loop .inv .0 .x-size) (augment .ensures .state),
       augment .ensures .length-same ∙ (search .ensures .length-same ∙ loop .inv .1),
-      search .kept .1 .1 .1 .0 ∙ loop .inv .2,
     )
 
 pub run-spec : {M : Type 1} → statement M
@@ -155,8 +136,6 @@ run-spec =
     (tie.spec
     Inv-loop
     μ-loop
-    count-of-requires
-    link-all-requires
     saturate-requires
     count-need-requires
     loop-holds
@@ -165,7 +144,6 @@ run-spec =
     enum-told
     same-length
     same-length-2
-    same-length-3
     returns
     search-requires
     augment-requires

@@ -1,7 +1,7 @@
 -- `circulation::solve` meets its contract: the whole nodes are lent, and put back before what stands behind them.
 use Rattle.circulation.specs.Nodes.{node-stride}
 use Rattle.network.specs.laws.TestedAnswers.{tested-yes, tested-no}
-use Rattle.circulation.proofs.laws.Parts.{valid-front, solved-back}
+use Rattle.circulation.proofs.laws.Parts.{valid-front, whole-back}
 use borrow.Author.Tests.{not-true, not-false}
 use mathlib.Core.Path.{refl, ap}
 use Prim.Native.Nat.{ℕ, _*_}
@@ -19,7 +19,6 @@ returns : tie.Need-returns
 returns c = (
   (λ v. tested-no (c .before .valid .result) (c .before .valid .ensures)
       (not-true (c .before .valid .result) (c .if1 .taken)) v),
-  refl,
   refl,
   refl,
 )
@@ -41,10 +40,10 @@ part-whole-end c = search needs
 
 whole-requires : tie.Need-whole-requires
 whole-requires c κs =
-    let start = c .before .before .before .before .before .before .before .before .before .before .before .before in
-    let valid = c .before .before .before .before .before .before .valid in
-    let if1 = c .before .before .before .before .before .if1 in
-    let count-of = c .before .before .before .count-of in
+    let start = c .before .before .before .before .before .before .before .before .before .before in
+    let valid = c .before .before .before .before .before .valid in
+    let if1 = c .before .before .before .before .if1 in
+    let count-of = c .before .before .count-of in
     valid-front (start .args .nodes .now) (node-stride * count-of .result)
     (ap (λ (k : ℕ). node-stride * k) (count-of .ensures))
     (tested-yes (valid .result) (valid .ensures) (not-false (valid .result) (if1 .left)))
@@ -55,21 +54,21 @@ same-length-2 c = search needs
 same-length-3 : tie.Need-same-length-3
 same-length-3 c = search needs
 
-same-length-4 : tie.Need-same-length-4
-same-length-4 c = search needs
-
 returns-2 : tie.Need-returns-2
 returns-2 c =
-    let start = c .before .before .before .before .before .before .before .before .before .before .before .before .before .before .before .before .before .before .before in
-    let valid = c .before .before .before .before .before .before .before .before .before .before .before .before .before .valid in
-    let if1 = c .before .before .before .before .before .before .before .before .before .before .before .before .if1 in
-    let count-of = c .before .before .before .before .before .before .before .before .before .before .count-of in
-    let whole = c .before .before .before .before .before .before .whole in
-    solved-back (start .args .nodes .now) (node-stride * count-of .result)
+    let start = c .before .before .before .before .before .before .before .before .before .before .before .before .before .before .before in
+    let valid = c .before .before .before .before .before .before .before .before .before .before .valid in
+    let if1 = c .before .before .before .before .before .before .before .before .before .if1 in
+    let count-of = c .before .before .before .before .before .before .before .count-of in
+    let whole = c .before .before .before .before .whole in
+    let back = whole-back (start .args .nodes .now) (node-stride * count-of .result)
     (ap (λ (k : ℕ). node-stride * k) (count-of .ensures)) (whole .last .1 .1 .0) (whole .kept .1 .1 .0)
-    (start .args .flows .now) (whole .last .1 .0) (start .args .chains .now) (whole .last .1 .1 .1 .0)
-    (tested-yes (valid .result) (valid .ensures) (not-false (valid .result) (if1 .left))) (whole .kept .1 .0)
-    (whole .kept .1 .1 .1 .0) (whole .ensures .0) (whole .ensures .1 .0) (whole .ensures .1 .1)
+    (whole .last .1 .0) (whole .ensures .0) (whole .ensures .1) in (
+      tested-yes (valid .result) (valid .ensures) (not-false (valid .result) (if1 .left)),
+      whole .kept .1 .0,
+      back .0,
+      back .1,
+    )
 
 pub solve-spec : {M : Type 1} → statement M
 solve-spec =
@@ -86,5 +85,4 @@ solve-spec =
     whole-requires
     same-length-2
     same-length-3
-    same-length-4
     returns-2)

@@ -1,5 +1,5 @@
 -- The contract fixes the answer and every number that is lent but the flows: two ends of the same input have the same
--- finding, and nodes and chains are equal.
+-- finding and the same nodes.
 use Rattle.network.specs.Net.{at, Net, meant}
 use Rattle.network.specs.laws.Indexed.{upto-in}
 use Rattle.network.specs.Integers.{down, up}
@@ -36,16 +36,16 @@ potentials-same n p q e g h v l = elim (ℕ-discrete v (n - 1)) [
     same inside = sym (upto-in (pos 0) (n - 1) (λ v. pos (p v) -ℤ pos potential-zero) v inside)
         ∙ (ap (λ (l : List ℤ). getD l v (pos 0)) e ∙ upto-in (pos 0) (n - 1) (λ v. pos (q v) -ℤ pos potential-zero) v inside)
 
-module _ (N : Net) (x₀ nodes₀ chains₀ x nodes chains y other hints : List ℕ) where
+module _ (N : Net) (x₀ nodes₀ x nodes y other : List ℕ) where
   -- the findings are the same
-  pub one-finding : (r s : Finding) → Means N x₀ nodes₀ chains₀ x nodes chains r → Means N x₀ nodes₀ chains₀ y other hints s → r ≡ s
+  pub one-finding : (r s : Finding) → Means N x₀ nodes₀ x nodes r → Means N x₀ nodes₀ y other s → r ≡ s
   one-finding solved solved m k = refl
   one-finding solved malformed m k = absurd (k .0 (m .0))
   one-finding malformed solved m k = absurd (m .0 (k .0))
   one-finding malformed malformed m k = refl
 
   -- the nodes of two solutions
-  pub solved-nodes : Cleared nodes₀ nodes chains₀ chains → Cleared nodes₀ other chains₀ hints
+  pub solved-nodes : Cleared nodes₀ nodes → Cleared nodes₀ other
       → Solution N (size nodes₀) (at x) (at (potentials nodes)) → Solution N (size nodes₀) (at y) (at (potentials other)) → nodes ≡ other
   solved-nodes c d s t =
       ext-getD 0 nodes other (c .nodes-size ∙ sym (d .nodes-size)) (λ i l. each i (decLt i (node-stride * size nodes₀)))
@@ -71,13 +71,9 @@ module _ (N : Net) (x₀ nodes₀ chains₀ x nodes chains y other hints : List 
           ∙ (number (i / node-stride) (i % node-stride) (omega arith) (omega arith) (ℕ-discrete (i % node-stride) 0) ∙ ap (at other) place)
       each i (no past) = c .rest i (omega arith) ∙ sym (d .rest i (omega arith))
 
-  -- nodes and chains are the same
-  pub one-end : (r s : Finding) → Means N x₀ nodes₀ chains₀ x nodes chains r → Means N x₀ nodes₀ chains₀ y other hints s
-      → (nodes ≡ other) × (chains ≡ hints)
-  one-end solved solved m k = (
-    solved-nodes (m .2) (k .2) (m .3) (k .3),
-    ext-getD 0 chains hints (m .2 .chains-size ∙ sym (k .2 .chains-size)) (λ i l. m .2 .chains-zero i ∙ sym (k .2 .chains-zero i)),
-  )
+  -- the nodes are the same
+  pub one-end : (r s : Finding) → Means N x₀ nodes₀ x nodes r → Means N x₀ nodes₀ y other s → nodes ≡ other
+  one-end solved solved m k = solved-nodes (m .2) (k .2) (m .3) (k .3)
   one-end solved malformed m k = absurd (k .0 (m .0))
   one-end malformed solved m k = absurd (m .0 (k .0))
-  one-end malformed malformed m k = (m .2 ∙ sym (k .2), m .3 ∙ sym (k .3))
+  one-end malformed malformed m k = m .2 ∙ sym (k .2)

@@ -12,11 +12,11 @@ use Rattle.difference.specs.declared.Answer as difference
 use Rattle.difference.specs.declared.Answer.the-variants as found
 use Rattle.circulation.specs.Nodes.{node-stride, potentials, size}
 use Rattle.circulation.specs.Input.{ArcsTaken, First, Valid}
-use Rattle.circulation.specs.Solutions.{Solution, finding as flow-finding, Means as CirculationMeans}
+use Rattle.circulation.specs.Solutions.{Solution, Cleared as NodesCleared, finding as flow-finding, Means as CirculationMeans}
 use Rattle.circulation.specs.laws.Feasible.{feasible-stored}
 use Rattle.circulation.specs.declared.Answer as circulation
 use Rattle.circulation.specs.declared.Answer.the-variants as circulated
-use Rattle.leftmost.specs.Solutions.{Taken, SomeFeasible, Finding, Means}
+use Rattle.leftmost.specs.Solutions.{Taken, SomeFeasible, Zeros, Finding, Means}
 use Rattle.leftmost.specs.inside.Potentials.{potentials-to}
 use Rattle.leftmost.proofs.laws.Potentials.{ready, size-same, potential-is, potential-behind, potentials-length, behind-same}
 
@@ -54,21 +54,28 @@ module _ {N : Net} (values nodes : List ℕ) (arcs-in : ArcsTaken N (size nodes)
         rooted = arcs-in .rooted;
       }
 
-module _ {N : Net} (x₀ nodes₀ room₀ x nodes room : List ℕ) (taken : Taken N (size nodes₀) (length room₀)) where
+-- nodes that are cleared, from nodes that were worked in: they are as many, and the same behind the last one
+cleared-before : (nodes₀ nodes₁ nodes : List ℕ) → length nodes₁ ≡ length nodes₀
+    → ((i : ℕ) → node-stride * size nodes₀ ≤ i → at nodes₁ i ≡ at nodes₀ i) → NodesCleared nodes₁ nodes → NodesCleared nodes₀ nodes
+cleared-before nodes₀ nodes₁ nodes size-is behind m = record {
+  nodes-size = m .nodes-size ∙ size-is;
+  others = λ v k v-in. m .others v k (omega arith);
+  rest = λ i past. m .rest i (omega arith) ∙ behind i past;
+}
+
+module _ {N : Net} (x₀ nodes₀ room₀ x nodes room : List ℕ) (taken : Taken N (size nodes₀) (length room₀)) (zeros : Zeros room₀ room) where
   -- what the solver of flows leaves from there is the answer: it is never malformed
   left-from : (values : List ℕ) (r : circulation.Answer) → RestKept (size nodes₀) room₀ values → Solves N (size nodes₀) values
-      → CirculationMeans N x₀ (ready values nodes₀) values x nodes room (flow-finding r)
+      → CirculationMeans N x₀ (ready values nodes₀) x nodes (flow-finding r)
       → Means N x₀ nodes₀ room₀ x nodes room Finding.solved
   left-from values circulated.Solved kept g m = (
     taken,
     record { start = take (size nodes₀ - 1) values; feasible = g .lowest .feasible },
     m .1,
     record {
-      nodes-size = m .2 .nodes-size ∙ potentials-length (size nodes₀) values nodes₀;
-      others = λ v k v-in. m .2 .others v k (omega (arith, size-same values nodes₀));
-      rest = λ i past. m .2 .rest i (omega (arith, size-same values nodes₀)) ∙ behind-same (size nodes₀) values nodes₀ i past;
-      chains-size = m .2 .chains-size ∙ kept .size;
-      chains-zero = m .2 .chains-zero;
+      in-nodes = cleared-before nodes₀ (ready values nodes₀) nodes (potentials-length (size nodes₀) values nodes₀)
+          (behind-same (size nodes₀) values nodes₀) (m .2);
+      in-room = zeros;
     },
     subst (λ (n : ℕ). Solution N n (at x) (at (potentials nodes))) (size-same values nodes₀) (m .3),
   )
@@ -79,10 +86,10 @@ module _ {N : Net} (x₀ nodes₀ room₀ x nodes room : List ℕ) (taken : Take
   -- where some potentials are feasible, the solver of differences finds the least: the only case of its answer
   pub solved-from : (values started : List ℕ) (a : difference.Answer) (r : circulation.Answer) → SomeFeasible (meant N (size nodes₀))
       → DifferenceMeans N (size nodes₀) room₀ values (difference-finding a) → started ≡ potentials-to (size nodes₀) values nodes₀
-      → CirculationMeans N x₀ started values x nodes room (flow-finding r) → Means N x₀ nodes₀ room₀ x nodes room Finding.solved
+      → CirculationMeans N x₀ started x nodes (flow-finding r) → Means N x₀ nodes₀ room₀ x nodes room Finding.solved
   solved-from values started found.Solved r some d e m =
       left-from values r (d .1) (d .2)
-      (subst (λ (l : List ℕ). CirculationMeans N x₀ l values x nodes room (flow-finding r)) e m)
+      (subst (λ (l : List ℕ). CirculationMeans N x₀ l x nodes (flow-finding r)) e m)
   solved-from values started found.NoSolution r some d e m = absurd (d .3 (some .start) (some .feasible))
   solved-from values started found.Malformed r some d e m =
       absurd (d .0 (record { wf = taken .arcs-in .wf; values-room = taken .room-in }))
@@ -105,11 +112,8 @@ solved-before {N} x₀ nodes₀ room₀ x₁ nodes₁ room₁ x nodes room x-siz
   subst (λ (n : ℕ). SomeFeasible (meant N n)) same (m .1),
   m .2 ∙ x-size,
   record {
-    nodes-size = m .3 .nodes-size ∙ nodes-size;
-    others = λ v k v-in. m .3 .others v k (omega (arith, same));
-    rest = λ i past. m .3 .rest i (omega (arith, same)) ∙ behind i past;
-    chains-size = m .3 .chains-size ∙ room-size;
-    chains-zero = m .3 .chains-zero;
+    in-nodes = cleared-before nodes₀ nodes₁ nodes nodes-size behind (m .3 .in-nodes);
+    in-room = record { size = m .3 .in-room .size ∙ room-size; zero = m .3 .in-room .zero };
   },
   subst (λ (n : ℕ). Solution N n (at x) (at (potentials nodes))) same (m .4),
 )

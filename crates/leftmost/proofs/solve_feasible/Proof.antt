@@ -51,10 +51,14 @@ returns c =
     let old : List ℕ = start .args .nodes .now in
     let end : ℕ = node-stride * size old in
     let left = shown-yes (attempt .result) (attempt .ensures) (c .if1 .taken) in
-    let back = whole-back old end refl (attempt .last .1 .1 .0) (attempt .kept .1 .1 .0)
-    (attempt .last .1 .0) (start .args .room .now) (attempt .last .1 .1 .1 .0) (attempt .kept .1 .1 .1 .0) (left .solution)
-    (left .others) (left .room-zero) in
-    (start .pre .0, start .pre .1, attempt .kept .1 .0, back .0, back .1)
+    let back = whole-back old end refl (attempt .last .1 .1 .0) (attempt .kept .1 .1 .0) (attempt .last .1 .0) (left .solution)
+    (left .others) in (
+      start .pre .0,
+      start .pre .1,
+      attempt .kept .1 .0,
+      record { in-nodes = back .0; in-room = record { size = attempt .kept .1 .1 .1 .0; zero = left .room-zero } },
+      back .1,
+    )
 
 circulate-requires : tie.Need-circulate-requires
 circulate-requires c κs =

@@ -10,21 +10,15 @@ settle-requires c κs = search needs
 clear-others-requires : tie.Need-clear-others-requires
 clear-others-requires c κs = search needs
 
-clear-requires : tie.Need-clear-requires
-clear-requires c κs = search needs
-
 same-length : tie.Need-same-length
 same-length c = search needs
 
-same-length-2 : tie.Need-same-length-2
-same-length-2 c = search needs
-
 returns : tie.Need-returns
 returns c =
-    let settle = c .before .before .before .before .before .before .before .before .before .before .settle in
-    let clear-others = c .before .before .before .before .before .before .clear-others in (
+    let settle = c .before .before .before .before .before .before .settle in
+    let clear-others = c .before .before .clear-others in (
       settled-same (settle .ensures) (clear-others .ensures .1),
-      (clear-others .ensures .0, c .before .before .clear .ensures),
+      clear-others .ensures .0,
     )
 
 pub finish-spec : {M : Type 1} → statement M
@@ -33,7 +27,5 @@ finish-spec =
     (tie.spec
     settle-requires
     clear-others-requires
-    clear-requires
     same-length
-    same-length-2
     returns)

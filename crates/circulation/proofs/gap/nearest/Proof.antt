@@ -1,10 +1,10 @@
--- `circulation::gap::nearest` meets its contract: the loop's invariant is `Seeking`.
+-- `circulation::gap::nearest` meets its contract: the loop's invariant is `Seeking`; a step of 0 is the least.
 use Rattle.network.specs.Net.{at, net}
 use Rattle.circulation.specs.Nodes.{potentials, ranks}
 use mathlib.Core.Logic.{⊎-elim}
 use Prim.Native.Nat.{_-_}
 use lib.ListN.{length}
-use Rattle.circulation.proofs.laws.Gaps.{Seeking, seek-start, seek-take, seek-keep, seek-found}
+use Rattle.circulation.proofs.laws.Gaps.{Seeking, seek-start, seek-take, seek-keep, seek-found, near-zero}
 use borrow.Author.Needs.{needs}
 use Rattle.circulation.proofs.gap.nearest.Statement.{statement}
 use Rattle.circulation.proofs.gap.nearest.Tie as tie
@@ -22,6 +22,14 @@ loop-holds c = seek-start
 gap-at-requires : tie.Need-gap-at-requires Inv-loop μ-loop
 gap-at-requires c κs = (c .before .before .before .before .before .pre .0, c .loop-test .taken)
 
+returns : tie.Need-returns Inv-loop μ-loop
+returns c =
+    let start = c .before .before .before .before .before .before .before in
+    near-zero (net (start .args .arcs .now) (length (start .args .flows .now)))
+    (at (potentials (start .args .nodes .now))) (at (start .args .flows .now)) (at (ranks (start .args .nodes .now)))
+    (c .before .before .before .loop .i) (c .before .before .loop-test .taken)
+    (rw (c .if1 .taken) at (c .before .gap-at .ensures))
+
 add-i : tie.Need-add-i Inv-loop μ-loop
 add-i c = search needs
 
@@ -30,16 +38,16 @@ loop-less c = search needs
 
 loop-again : tie.Need-loop-again Inv-loop μ-loop
 loop-again c =
-    let loop = c .before .before .before .loop in
-    let loop-test = c .before .before .loop-test in
-    ⊎-elim (λ w. rw (w .1, w .2) (seek-take (loop .inv) (loop-test .taken) (c .before .gap-at .ensures) (w .0 .taken)))
-    (λ w. rw (w .1, w .2) (seek-keep (loop .inv) (loop-test .taken) (c .before .gap-at .ensures) (w .0 .left)))
-    (c .if1 .came)
+    let loop = c .before .before .before .before .loop in
+    let loop-test = c .before .before .before .loop-test in
+    ⊎-elim (λ w. rw (w .1, w .2) (seek-take (loop .inv) (loop-test .taken) (c .before .before .gap-at .ensures) (w .0 .taken)))
+    (λ w. rw (w .1, w .2) (seek-keep (loop .inv) (loop-test .taken) (c .before .before .gap-at .ensures) (w .0 .left)))
+    (c .if2 .came)
 
-returns : tie.Need-returns Inv-loop μ-loop
-returns c = seek-found (c .before .loop .inv) (c .loop-test .left) (c .before .before .before .before .before .pre .1)
+returns-2 : tie.Need-returns-2 Inv-loop μ-loop
+returns-2 c = seek-found (c .before .loop .inv) (c .loop-test .left) (c .before .before .before .before .before .pre .1)
 
 pub nearest-spec : {M : Type 1} → statement M
 nearest-spec =
     tie.close
-    (tie.spec Inv-loop μ-loop loop-holds gap-at-requires add-i loop-less loop-again returns)
+    (tie.spec Inv-loop μ-loop loop-holds gap-at-requires returns add-i loop-less loop-again returns-2)

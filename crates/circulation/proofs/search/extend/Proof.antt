@@ -8,25 +8,24 @@ use lib.ListN.{length}
 use mathlib.Core.Path.{subst, sym, ap, _∙_}
 use Prim.Native.Nat.{ℕ, _/_}
 use native.Mathlib.Omega.{arith}
-use borrow.Author.Needs.{needs}
 use Rattle.circulation.proofs.search.extend.Statement.{statement}
 use Rattle.circulation.proofs.search.extend.Tie as tie
 use Rattle.circulation.specs.Nodes.{node-stride}
 
 choose-requires : tie.Need-choose-requires
 choose-requires c κs =
-    let start = c .before .before .before .before .before .before in
+    let start = c .before .before .before .before in
     (start .pre .0 .ready, start .pre .1)
 
 gap-at-requires : tie.Need-gap-at-requires
 gap-at-requires c κs =
-    let start = c .before .before .before .before .before .before .before .before .before .before in
-    (start .pre .0 .ready, c .before .before .before .choose .ensures .0)
+    let start = c .before .before .before .before .before .before in
+    (start .pre .0 .ready, c .before .choose .ensures .0)
 
 raise-reached-requires : tie.Need-raise-reached-requires
 raise-reached-requires c κs =
-    let start = c .before .before .before .before .before .before .before .before .before .before .before .before in
-    let choose = c .before .before .before .before .before .choose in (
+    let start = c .before .before .before .before .before .before .before .before in
+    let choose = c .before .before .before .choose in (
       omega (arith, start .pre .0 .ready .wf .nodes, column-length 0 (start .args .nodes .now)),
       (
         start .pre .0 .ready .p-in,
@@ -38,8 +37,8 @@ raise-reached-requires c κs =
 
 far-requires : tie.Need-far-requires
 far-requires c κs =
-    let start = c .before .before .before .before .before .before .before .before .before .before .before .before .before .before .before .before in
-    let choose = c .before .before .before .before .before .before .before .before .before .choose in
+    let start = c .before .before .before .before .before .before .before .before .before .before .before .before in
+    let choose = c .before .before .before .before .before .before .before .choose in
     let raise-reached = c .before .before .before .raise-reached in (
       omega (arith, choose .ensures .0, start .pre .0 .ready .wf .room),
       omega (arith, choose .ensures .0, start .pre .0 .ready .wf .few),
@@ -59,8 +58,8 @@ far-requires c κs =
 
 room-over-requires : tie.Need-room-over-requires
 room-over-requires c κs =
-    let start = c .before .before .before .before .before .before .before .before .before .before .before .before .before .before .before .before .before .before in
-    let choose = c .before .before .before .before .before .before .before .before .before .before .before .choose in
+    let start = c .before .before .before .before .before .before .before .before .before .before .before .before .before .before in
+    let choose = c .before .before .before .before .before .before .before .before .before .choose in
     let raise-reached = c .before .before .before .before .before .raise-reached in (
       subst (λ (n : ℕ). WellFormed (net (start .args .arcs .now) (length (start .args .flows .now))) n)
           (column-length 0 (start .args .nodes .now)
@@ -74,13 +73,13 @@ room-over-requires c κs =
 
 add-reach : tie.Need-add-reach
 add-reach c =
-    let start = c .before .before .before .before .before .before .before .before .before .before .before .before .before .before .before .before .before .before .before .before in
+    let start = c .before .before .before .before .before .before .before .before .before .before .before .before .before .before .before .before in
     omega (arith, crossing-room (start .pre .0) (start .pre .1), start .pre .0 .ready .wf .nodes)
 
 reach-requires : tie.Need-reach-requires
 reach-requires c κs =
-    let start = c .before .before .before .before .before .before .before .before .before .before .before .before .before .before .before .before .before .before .before .before in
-    let choose = c .before .before .before .before .before .before .before .before .before .before .before .before .before .choose in
+    let start = c .before .before .before .before .before .before .before .before .before .before .before .before .before .before .before .before in
+    let choose = c .before .before .before .before .before .before .before .before .before .before .before .choose in
     let gap-at = c .before .before .before .before .before .before .before .before .before .gap-at in
     let raise-reached = c .before .before .before .before .before .before .before .raise-reached in
     let far = c .before .before .before .far in (
@@ -106,57 +105,21 @@ reach-requires c κs =
       c .before .room-over .ensures .1,
     )
 
-count-of-requires : tie.Need-count-of-requires
-count-of-requires c κs = search needs
-
-opened-requires : tie.Need-opened-requires
-opened-requires c κs =
-    let start = c .before .before .before .before .before .before .before .before .before .before .before .before .before .before .before .before .before .before .before .before .before .before .before .before .before .before in
-    let choose = c .before .before .before .before .before .before .before .before .before .before .before .before .before .before .before .before .before .before .before .choose in
-    let gap-at = c .before .before .before .before .before .before .before .before .before .before .before .before .before .before .before .gap-at in
-    let raise-reached = c .before .before .before .before .before .before .before .before .before .before .before .before .before .raise-reached in
-    let far = c .before .before .before .before .before .before .before .before .before .far in
-    let room-over = c .before .before .before .before .before .before .before .room-over in
-    let reach = c .before .before .before .before .before .reach in (
-      omega (
-        arith,
-        c .count-of .ensures,
-        reach .ensures .length-same,
-        raise-reached .ensures .1 .length-same,
-        start .pre .0 .ready .wf .nodes,
-        column-length 0 (start .args .nodes .now),
-      ),
-      omega (
-        arith,
-        far-in (start .pre .0) (choose .result) (gap-at .result) (choose .ensures)
-            (gap-at .ensures .least (choose .ensures .1) .0) (raise-reached .last .0) (raise-reached .ensures .0)
-            (raise-reached .ensures .1) (far .result) (far .ensures .0) (far .ensures .1) (room-over .result)
-            (room-over .ensures .0),
-        start .pre .0 .ready .wf .nodes,
-        column-length 0 (start .args .nodes .now),
-      ),
-    )
-
 same-length : tie.Need-same-length
 same-length c =
-    let raise-reached = c .before .before .before .before .before .before .before .before .before .before .before .before .before .before .before .before .raise-reached in
-    let reach = c .before .before .before .before .before .before .before .before .reach in
+    let raise-reached = c .before .before .before .before .before .before .before .before .before .before .raise-reached in
+    let reach = c .before .before .reach in
     reach .ensures .length-same ∙ raise-reached .ensures .1 .length-same
-
-same-length-2 : tie.Need-same-length-2
-same-length-2 c =
-    let choose = c .before .before .before .before .before .before .before .before .before .before .before .before .before .before .before .before .before .before .before .before .before .before .choose in
-    c .before .before .opened .kept .0 ∙ choose .kept .1 .1 .1 .0
 
 returns : tie.Need-returns
 returns c =
-    let start = c .before .before .before .before .before .before .before .before .before .before .before .before .before .before .before .before .before .before .before .before .before .before .before .before .before .before .before .before .before in
-    let choose = c .before .before .before .before .before .before .before .before .before .before .before .before .before .before .before .before .before .before .before .before .before .before .choose in
-    let gap-at = c .before .before .before .before .before .before .before .before .before .before .before .before .before .before .before .before .before .before .gap-at in
-    let raise-reached = c .before .before .before .before .before .before .before .before .before .before .before .before .before .before .before .before .raise-reached in
-    let far = c .before .before .before .before .before .before .before .before .before .before .before .before .far in
-    let room-over = c .before .before .before .before .before .before .before .before .before .before .room-over in
-    let reach = c .before .before .before .before .before .before .before .before .reach in
+    let start = c .before .before .before .before .before .before .before .before .before .before .before .before .before .before .before .before .before .before .before in
+    let choose = c .before .before .before .before .before .before .before .before .before .before .before .before .before .before .choose in
+    let gap-at = c .before .before .before .before .before .before .before .before .before .before .before .before .gap-at in
+    let raise-reached = c .before .before .before .before .before .before .before .before .before .before .raise-reached in
+    let far = c .before .before .before .before .before .before .far in
+    let room-over = c .before .before .before .before .room-over in
+    let reach = c .before .before .reach in
     extended (start .pre .0) (choose .result) (gap-at .result) (choose .ensures)
     (gap-at .ensures .least (choose .ensures .1) .0) (raise-reached .last .0) (raise-reached .ensures .0)
     (raise-reached .ensures .1) (far .result) (far .ensures .0) (far .ensures .1) (room-over .result)
@@ -173,8 +136,5 @@ extend-spec =
     room-over-requires
     add-reach
     reach-requires
-    count-of-requires
-    opened-requires
     same-length
-    same-length-2
     returns)

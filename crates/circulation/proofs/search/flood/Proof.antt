@@ -5,6 +5,7 @@ use Rattle.network.specs.Net.{net}
 use Rattle.circulation.specs.Input.{Rooted}
 use Rattle.circulation.proofs.laws.Floods.{flood-crosses, flood-whole}
 use Rattle.circulation.proofs.laws.Searches.{begin-grown}
+use Rattle.circulation.proofs.laws.Rooms.{new-there}
 use Rattle.circulation.specs.laws.Columns.{column-length}
 use lib.ListN.{length}
 use mathlib.Core.Path.{_≡_, refl, subst, sym, ap, _∙_}
@@ -15,40 +16,26 @@ use Rattle.circulation.proofs.search.flood.Statement.{statement}
 use Rattle.circulation.proofs.search.flood.Tie as tie
 
 abbrev Inv-loop : tie.InvT-loop
-Inv-loop arcs flows nodes₀ chains₀ n g count₀ nodes chains count =
+Inv-loop arcs flows nodes₀ n g count₀ start₀ nodes count start =
     GrownAt (net arcs (length flows)) g count flows nodes
     × (length nodes ≡ length nodes₀)
     × (count ≤ n)
-    × (length chains ≡ length chains₀)
 
 abbrev μ-loop : tie.MeasureT-loop
-μ-loop arcs flows nodes₀ chains₀ n g count₀ nodes chains count = n - count
+μ-loop arcs flows nodes₀ n g count₀ start₀ nodes count start = n - count
 
 count-of-requires : tie.Need-count-of-requires Inv-loop μ-loop
 count-of-requires c κs = search needs
 
 sub-g : tie.Need-sub-g Inv-loop μ-loop
 sub-g c =
-    let start = c .before .before .before .before .before .before in
+    let start = c .before .before .before .before .before in
     omega (arith, c .count-of .ensures, column-length 0 (start .args .nodes .now), start .pre .0 .wf .some)
-
-restart-requires : tie.Need-restart-requires Inv-loop μ-loop
-restart-requires c κs =
-    let start = c .before .before .before .before .before .before .before in (
-      omega (arith, c .before .count-of .ensures, column-length 0 (start .args .nodes .now), start .pre .0 .wf .nodes),
-      omega (
-        arith,
-        c .before .count-of .ensures,
-        column-length 0 (start .args .nodes .now),
-        start .pre .0 .wf .nodes,
-        start .pre .0 .wf .some,
-      ),
-    )
 
 begin-requires : tie.Need-begin-requires Inv-loop μ-loop
 begin-requires c κs =
-    let start = c .before .before .before .before .before .before .before .before .before .before .before in
-    let count-of = c .before .before .before .before .before .count-of in (
+    let start = c .before .before .before .before .before .before in
+    let count-of = c .before .count-of in (
       omega (arith, start .pre .0 .wf .nodes, column-length 0 (start .args .nodes .now)),
       omega (arith, count-of .ensures, column-length 0 (start .args .nodes .now), start .pre .0 .wf .some),
       omega arith,
@@ -56,8 +43,8 @@ begin-requires c κs =
 
 loop-holds : tie.Need-loop-holds Inv-loop μ-loop
 loop-holds c =
-    let start = c .before .before .before .before .before .before .before .before .before .before .before .before .before .before in
-    let count-of = c .before .before .before .before .before .before .before .before .count-of in
+    let start = c .before .before .before .before .before .before .before .before .before in
+    let count-of = c .before .before .before .before .count-of in
     let begin = c .before .before .begin in (
       begin-grown (potentials (begin .last .0)) (start .args .flows .now) (ranks (begin .last .0))
           (parents (begin .last .0)) (rooms (begin .last .0)) (count-of .result - 1)
@@ -78,15 +65,14 @@ loop-holds c =
           (begin .ensures .alone) (omega (arith, begin .ensures .root-room)),
       refl,
       omega (arith, count-of .ensures, column-length 0 (start .args .nodes .now), start .pre .0 .wf .some),
-      refl,
     )
 
 extend-requires : tie.Need-extend-requires Inv-loop μ-loop
 extend-requires c κs =
-    let start = c .before .before .before .before .before .before .before .before .before .before .before .before .before .before .before .before .before .before in
-    let count-of = c .before .before .before .before .before .before .before .before .before .before .before .before .count-of in
-    let begin = c .before .before .before .before .before .before .begin in
-    let loop = c .before .before .before .loop in (
+    let start = c .before .before .before .before .before .before .before .before .before .before .before .before in
+    let count-of = c .before .before .before .before .before .before .before .count-of in
+    let begin = c .before .before .before .before .before .begin in
+    let loop = c .before .before .loop in (
       loop .inv .0,
       flood-crosses (loop .inv .0)
           (omega (arith, count-of .ensures, column-length 0 (loop .nodes), loop .inv .1, begin .ensures .length-same))
@@ -95,7 +81,7 @@ extend-requires c κs =
           (start .pre .1))
           (omega (
             arith,
-            c .before .before .loop-test .taken,
+            c .before .loop-test .taken,
             count-of .ensures,
             column-length 0 (loop .nodes),
             loop .inv .1,
@@ -103,40 +89,39 @@ extend-requires c κs =
           )),
     )
 
+get-requires : tie.Need-get-requires Inv-loop μ-loop
+get-requires c κs =
+    new-there (c .before .before .before .before .before .before .loop .inv .0)
+    (c .before .before .before .extend .ensures) (omega arith)
+
 add-count : tie.Need-add-count Inv-loop μ-loop
 add-count c =
-    let start = c .before .before .before .before .before .before .before .before .before .before .before .before .before .before .before .before .before .before .before .before .before .before .before in
-    let count-of = c .before .before .before .before .before .before .before .before .before .before .before .before .before .before .before .before .before .count-of in
-    let loop-test = c .before .before .before .before .before .before .before .loop-test in
+    let start = c .before .before .before .before .before .before .before .before .before .before .before .before .before .before .before .before .before in
+    let count-of = c .before .before .before .before .before .before .before .before .before .before .before .before .count-of in
+    let loop-test = c .before .before .before .before .before .before .loop-test in
     omega
     (arith, loop-test .taken, count-of .ensures, column-length 0 (start .args .nodes .now), start .pre .0 .wf .nodes)
 
 loop-less : tie.Need-loop-less Inv-loop μ-loop
-loop-less c = omega (arith, c .before .before .before .before .before .before .before .loop-test .taken)
+loop-less c = omega (arith, c .before .before .before .before .before .before .loop-test .taken)
 
 loop-again : tie.Need-loop-again Inv-loop μ-loop
 loop-again c =
-    let loop = c .before .before .before .before .before .before .before .before .loop in
-    let loop-test = c .before .before .before .before .before .before .before .loop-test in
+    let loop = c .before .before .before .before .before .before .before .loop in
+    let loop-test = c .before .before .before .before .before .before .loop-test in
     let extend = c .before .before .before .before .extend in (
       extend .ensures .extends .grown,
       extend .ensures .length-same ∙ loop .inv .1,
       omega (arith, loop-test .taken),
-      extend .kept .1 .1 .1 .0 ∙ loop .inv .3,
     )
 
 same-length : tie.Need-same-length Inv-loop μ-loop
 same-length c = c .before .loop .inv .1 ∙ c .before .before .before .before .begin .ensures .length-same
 
-same-length-2 : tie.Need-same-length-2 Inv-loop μ-loop
-same-length-2 c =
-    let restart = c .before .before .before .before .before .before .before .before .restart in
-    c .before .loop .inv .3 ∙ restart .kept .0
-
 returns : tie.Need-returns Inv-loop μ-loop
 returns c =
-    let start = c .before .before .before .before .before .before .before .before .before .before .before .before .before .before .before .before in
-    let count-of = c .before .before .before .before .before .before .before .before .before .before .count-of in
+    let start = c .before .before .before .before .before .before .before .before .before .before .before in
+    let count-of = c .before .before .before .before .before .before .count-of in
     let begin = c .before .before .before .before .begin in
     record {
       grown = subst
@@ -167,13 +152,12 @@ flood-spec =
     μ-loop
     count-of-requires
     sub-g
-    restart-requires
     begin-requires
     loop-holds
     extend-requires
+    get-requires
     add-count
     loop-less
     loop-again
     same-length
-    same-length-2
     returns)

@@ -4,53 +4,42 @@ use Rattle.circulation.specs.Nodes.{column, potentials, ranks, parents, 
 use Rattle.network.specs.Net.{net}
 use Rattle.circulation.proofs.laws.Searches.{Searching, search-start, search-next, search-found, search-crosses}
 use Rattle.circulation.proofs.laws.Trees.{crossing-room}
+use Rattle.circulation.proofs.laws.Rooms.{new-there}
 use Rattle.circulation.specs.laws.Columns.{column-length, column-at}
 use lib.ListN.{length, getD}
 use Prim.Native.Nat.{ℕ, _+_, _*_, _-_, _/_}
 use mathlib.Core.List.{List}
 use mathlib.Core.Path.{_≡_, refl, subst, sym, ap, _∙_}
 use native.Mathlib.Omega.{arith}
-use borrow.Author.Needs.{needs}
 use Rattle.circulation.proofs.search.search.Statement.{statement}
 use Rattle.circulation.proofs.search.search.Tie as tie
 
 abbrev Inv-loop : tie.InvT-loop
-Inv-loop arcs flows nodes₀ chains₀ s room count₀ nodes chains count =
+Inv-loop arcs flows nodes₀ s room count₀ start₀ nodes count start =
     Searching (net arcs (length flows)) s count (potentials nodes₀) (potentials nodes) flows (column 1 nodes₀)
     (ranks nodes) (parents nodes) (rooms nodes)
     × (length nodes ≡ length nodes₀)
     × (column 1 nodes ≡ column 1 nodes₀)
-    × (length chains ≡ length chains₀)
 
 abbrev μ-loop : tie.MeasureT-loop
-μ-loop arcs flows nodes₀ chains₀ s room count₀ nodes chains count = length nodes₀ / node-stride - count
+μ-loop arcs flows nodes₀ s room count₀ start₀ nodes count start = length nodes₀ / node-stride - count
 
 get-requires : tie.Need-get-requires Inv-loop μ-loop
 get-requires c κs =
-    let start = c .before .before .before .before .before in (
+    let start = c .before .before .before .before in (
       start .pre .1 .0,
       omega (arith, start .pre .1 .0, start .pre .0 .wf .nodes, column-length 0 (start .args .nodes .now)),
       omega arith,
     )
 
 sub-room : tie.Need-sub-room Inv-loop μ-loop
-sub-room c = omega (arith, c .get .ensures, c .before .before .before .before .before .before .pre .1 .1)
-
-count-of-requires : tie.Need-count-of-requires Inv-loop μ-loop
-count-of-requires c κs = search needs
-
-restart-requires : tie.Need-restart-requires Inv-loop μ-loop
-restart-requires c κs =
-    let start = c .before .before .before .before .before .before .before .before .before in (
-      omega (arith, c .count-of .ensures, start .pre .0 .wf .nodes, column-length 0 (start .args .nodes .now)),
-      omega (arith, start .pre .1 .0, start .pre .0 .wf .nodes, column-length 0 (start .args .nodes .now)),
-    )
+sub-room c = omega (arith, c .get .ensures, c .before .before .before .before .before .pre .1 .1)
 
 begin-requires : tie.Need-begin-requires Inv-loop μ-loop
 begin-requires c κs =
-    let start = c .before .before .before .before .before .before .before .before .before .before .before .before .before in
-    let slice-known = c .before .before .before .before .before .before .before .before .before .before .slice-known in
-    let get = c .before .before .before .before .before .before .before .get in (
+    let start = c .before .before .before .before .before .before in
+    let slice-known = c .before .before .before .slice-known in
+    let get = c .before .get in (
       omega (arith, start .pre .0 .wf .nodes, column-length 0 (start .args .nodes .now)),
       start .pre .1 .0,
       omega (
@@ -63,8 +52,8 @@ begin-requires c κs =
 
 loop-holds : tie.Need-loop-holds Inv-loop μ-loop
 loop-holds c =
-    let start = c .before .before .before .before .before .before .before .before .before .before .before .before .before .before .before .before in
-    let get = c .before .before .before .before .before .before .before .before .before .before .get in
+    let start = c .before .before .before .before .before .before .before .before .before in
+    let get = c .before .before .before .before .get in
     let begin = c .before .before .begin in (
       search-start (start .args .s)
           (omega (arith, start .pre .1 .0, column-length 0 (begin .last .0), begin .ensures .length-same))
@@ -82,41 +71,29 @@ loop-holds c =
           )),
       refl,
       refl,
-      refl,
     )
 
 extend-requires : tie.Need-extend-requires Inv-loop μ-loop
-extend-requires c κs = (c .before .before .loop .inv .0 .grown, search-crosses (c .before .before .loop .inv .0))
+extend-requires c κs = (c .before .loop .inv .0 .grown, search-crosses (c .before .loop .inv .0))
 
 get-requires-2 : tie.Need-get-requires-2 Inv-loop μ-loop
 get-requires-2 c κs =
-    let loop = c .before .before .before .before .before .before .before .before .loop in
-    let extend = c .before .before .before .before .before .extend in (
-      omega (arith, extend .ensures .extends .v-in, column-length 0 (loop .nodes), extend .ensures .length-same),
-      omega (arith, extend .ensures .extends .v-in, loop .inv .0 .grown .ready .wf .nodes),
-      omega arith,
-    )
+    new-there (c .before .before .before .before .before .loop .inv .0 .grown)
+    (c .before .before .before .extend .ensures) (omega arith)
 
 same-length : tie.Need-same-length Inv-loop μ-loop
 same-length c =
-    let begin = c .before .before .before .before .before .before .before .before .before .before .before .before .before .begin in
-    let loop = c .before .before .before .before .before .before .before .before .before .before .loop in
-    let extend = c .before .before .before .before .before .before .before .extend in
+    let begin = c .before .before .before .before .before .before .before .before .before .before .begin in
+    let loop = c .before .before .before .before .before .before .before .loop in
+    let extend = c .before .before .before .before .before .extend in
     extend .ensures .length-same ∙ (loop .inv .1 ∙ begin .ensures .length-same)
-
-same-length-2 : tie.Need-same-length-2 Inv-loop μ-loop
-same-length-2 c =
-    let restart = c .before .before .before .before .before .before .before .before .before .before .before .before .before .before .before .before .before .restart in
-    let loop = c .before .before .before .before .before .before .before .before .before .before .loop in
-    let extend = c .before .before .before .before .before .before .before .extend in
-    extend .kept .1 .1 .1 .0 ∙ (loop .inv .3 ∙ restart .kept .0)
 
 returns : tie.Need-returns Inv-loop μ-loop
 returns c =
-    let start = c .before .before .before .before .before .before .before .before .before .before .before .before .before .before .before .before .before .before .before .before .before .before .before .before .before .before .before in
-    let begin = c .before .before .before .before .before .before .before .before .before .before .before .before .before .begin in
-    let loop = c .before .before .before .before .before .before .before .before .before .before .loop in
-    let extend = c .before .before .before .before .before .before .before .extend in
+    let start = c .before .before .before .before .before .before .before .before .before .before .before .before .before .before .before .before .before in
+    let begin = c .before .before .before .before .before .before .before .before .before .before .begin in
+    let loop = c .before .before .before .before .before .before .before .loop in
+    let extend = c .before .before .before .before .before .extend in
     record {
       reached = subst
           (λ (l : List ℕ). Reached (net (start .args .arcs .now) (length (start .args .flows .now))) (start .args .s)
@@ -134,15 +111,20 @@ returns c =
       needs-same = (extend .ensures .needs-same ∙ loop .inv .2) ∙ begin .ensures .needs-same;
     }
 
+get-requires-3 : tie.Need-get-requires-3 Inv-loop μ-loop
+get-requires-3 c κs =
+    new-there (c .before .before .before .before .before .before .before .before .loop .inv .0 .grown)
+    (c .before .before .before .before .before .before .extend .ensures) (omega arith)
+
 add-count : tie.Need-add-count Inv-loop μ-loop
 add-count c =
-    let loop = c .before .before .before .before .before .before .before .before .before .before .loop in
+    let loop = c .before .before .before .before .before .before .before .before .before .loop in
     omega
     (arith, crossing-room (loop .inv .0 .grown) (search-crosses (loop .inv .0)), loop .inv .0 .grown .ready .wf .nodes)
 
 loop-less : tie.Need-loop-less Inv-loop μ-loop
 loop-less c =
-    let loop = c .before .before .before .before .before .before .before .before .before .before .loop in
+    let loop = c .before .before .before .before .before .before .before .before .before .loop in
     omega (
       arith,
       crossing-room (loop .inv .0 .grown) (search-crosses (loop .inv .0)),
@@ -152,18 +134,17 @@ loop-less c =
 
 loop-again : tie.Need-loop-again Inv-loop μ-loop
 loop-again c =
-    let loop = c .before .before .before .before .before .before .before .before .before .before .loop in
+    let loop = c .before .before .before .before .before .before .before .before .before .loop in
     let extend = c .before .before .before .before .before .before .before .extend in (
       search-next (extend .result) (loop .inv .0) (extend .ensures .extends) (extend .ensures .root-room)
           (omega (
             arith,
-            c .before .get2 .ensures,
-            c .if1 .left,
+            c .before .before .before .get2 .ensures,
+            c .before .before .if1 .left,
             ap (λ (l : List ℕ). getD l (extend .result) 0) (extend .ensures .needs-same ∙ loop .inv .2),
           )),
       extend .ensures .length-same ∙ loop .inv .1,
       (extend .ensures .needs-same ∙ loop .inv .2),
-      extend .kept .1 .1 .1 .0 ∙ loop .inv .3,
     )
 
 pub search-spec : {M : Type 1} → statement M
@@ -174,15 +155,13 @@ search-spec =
     μ-loop
     get-requires
     sub-room
-    count-of-requires
-    restart-requires
     begin-requires
     loop-holds
     extend-requires
     get-requires-2
     same-length
-    same-length-2
     returns
+    get-requires-3
     add-count
     loop-less
     loop-again)

@@ -31,13 +31,16 @@ returns c = search needs
 
 finish-requires : tie.Need-finish-requires
 finish-requires c κs =
-    let start = c .before .before .before .before .before .before .before .before .before .before .before .before .before .before .before .before .before .before .before .before .before .before in
-    let guess = c .before .before .before .before .before .before .before .before .before .before .before .before .before .before .guess in
-    let optimal = c .before .before .before .before .before .optimal in
-    let if1 = c .before .before .if1 in
+    let start = c .before .before .before .before .before .before .before .before .before .before .before .before .before .before .before .before .before .before .before .before .before in
+    let guess = c .before .before .before .before .before .before .before .before .before .before .before .before .before .guess in
+    let optimal = c .before .before .before .before .optimal in
+    let if1 = c .before .if1 in
     passes-grounded (optimal .last .1 .1 .0) (ap (λ (k : ℕ). k / node-stride) (optimal .kept .1 .1 .0))
     (rw (guess .kept .1 .0, guess .kept .1 .1 .0) (start .pre .wf))
     (shown-past (optimal .result) (optimal .ensures) (if1 .left))
+
+clear-requires : tie.Need-clear-requires
+clear-requires c κs = search needs
 
 same-length-4 : tie.Need-same-length-4
 same-length-4 c = search needs
@@ -50,17 +53,17 @@ same-length-6 c = search needs
 
 returns-2 : tie.Need-returns-2
 returns-2 c =
-    let start = c .before .before .before .before .before .before .before .before .before .before .before .before .before .before .before .before .before .before .before .before .before .before .before .before .before .before .before in
-    let guess = c .before .before .before .before .before .before .before .before .before .before .before .before .before .before .before .before .before .before .before .guess in
-    let optimal = c .before .before .before .before .before .before .before .before .before .before .optimal in
-    let if1 = c .before .before .before .before .before .before .before .if1 in
-    let finish = c .before .before .before .before .finish in
+    let start = c .before .before .before .before .before .before .before .before .before .before .before .before .before .before .before .before .before .before .before .before .before .before .before .before .before .before .before .before in
+    let guess = c .before .before .before .before .before .before .before .before .before .before .before .before .before .before .before .before .before .before .before .before .guess in
+    let optimal = c .before .before .before .before .before .before .before .before .before .before .before .optimal in
+    let if1 = c .before .before .before .before .before .before .before .before .if1 in
+    let finish = c .before .before .before .before .before .before .finish in
+    let clear = c .before .before .clear in
     rw (guess .kept .1 .0, guess .kept .1 .1 .0) at
     (passes-left (optimal .last .1 .1 .0) (ap (λ (k : ℕ). k / node-stride) (optimal .kept .1 .1 .0))
     (rw (guess .kept .1 .0, guess .kept .1 .1 .0) (start .pre .wf))
     (shown-past (optimal .result) (optimal .ensures) (if1 .left)) (finish .last .0)
-    (finish .last .1 .0) (rw (guess .kept .1 .0) (start .pre .limited)) (finish .ensures .0) (finish .ensures .1 .0)
-    (finish .ensures .1 .1))
+    (clear .last .0) (rw (guess .kept .1 .0) (start .pre .limited)) (finish .ensures .0) (finish .ensures .1) (clear .ensures))
 
 pub attempt-spec : {M : Type 1} → statement M
 attempt-spec =
@@ -73,6 +76,7 @@ attempt-spec =
     same-length-3
     returns
     finish-requires
+    clear-requires
     same-length-4
     same-length-5
     same-length-6

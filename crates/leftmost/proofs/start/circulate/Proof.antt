@@ -1,5 +1,6 @@
 -- `leftmost::start::circulate` meets its contract: the least solution of the hard constraints is a start for the solver of flows.
 use Rattle.leftmost.proofs.laws.Start.{solved-from}
+use mathlib.Core.Path.{_∙_}
 use borrow.Author.Needs.{needs}
 use Rattle.leftmost.proofs.start.circulate.Statement.{statement}
 use Rattle.leftmost.proofs.start.circulate.Tie as tie
@@ -13,6 +14,9 @@ set-potentials-requires c κs = search needs
 solve-requires : tie.Need-solve-requires
 solve-requires c κs = search needs
 
+clear-requires : tie.Need-clear-requires
+clear-requires c κs = search needs
+
 same-length : tie.Need-same-length
 same-length c = search needs
 
@@ -24,12 +28,14 @@ same-length-3 c = search needs
 
 returns : tie.Need-returns
 returns c =
-    let start = c .before .before .before .before .before .before .before .before .before .before .before .before .before .before .before .before .before .before .before .before .before .before .before in
-    let least = c .before .before .before .before .before .before .before .before .before .before .before .before .before .before .before .before .before .least in
-    let set = c .before .before .before .before .before .before .before .before .before .before .before .before .set-potentials in
-    let solve = c .before .before .before .before .before .before .solve in
+    let start = c .before .before .before .before .before .before .before .before .before .before .before .before .before .before .before .before .before .before .before .before .before .before .before .before in
+    let least = c .before .before .before .before .before .before .before .before .before .before .before .before .before .before .before .before .before .before .least in
+    let set = c .before .before .before .before .before .before .before .before .before .before .before .before .before .set-potentials in
+    let solve = c .before .before .before .before .before .before .before .before .solve in
+    let clear = c .before .before .clear in
     solved-from (start .args .flows .now) (start .args .nodes .now) (start .args .room .now) (solve .last .1 .0)
-    (solve .last .1 .1 .0) (solve .last .1 .1 .1 .0) (start .pre .0) (least .last .1 .1 .1 .0) (set .last .1 .1 .0)
+    (solve .last .1 .1 .0) (clear .last .0) (start .pre .0)
+    (record { size = clear .kept .0 ∙ least .kept .1 .1 .1 .0; zero = clear .ensures }) (least .last .1 .1 .1 .0) (set .last .1 .1 .0)
     (least .result) (solve .result) (start .pre .1) (least .ensures) (set .ensures) (solve .ensures)
 
 pub circulate-spec : {M : Type 1} → statement M
@@ -39,6 +45,7 @@ circulate-spec =
     least-requires
     set-potentials-requires
     solve-requires
+    clear-requires
     same-length
     same-length-2
     same-length-3
