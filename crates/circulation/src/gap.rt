@@ -1,14 +1,12 @@
 // How far the reached nodes may rise until an arc is on its kink, and the arc of the least such step.
 use crate::arc::flow_of;
-use crate::arc::head_of;
 use crate::arc::high_of;
-use crate::arc::kink_of;
 use crate::arc::low_of;
-use crate::arc::tail_of;
-use crate::nodes::POTENTIAL;
+use crate::ends::asks_at;
+use crate::ends::at_head;
+use crate::ends::at_tail;
+use crate::ends::stands_at;
 use crate::nodes::RANK;
-use crate::nodes::get;
-use network::layout::KINK_ZERO;
 ghost use Prim.Native.Nat.{_<_};
 ghost use lib.ListN.{length};
 ghost use Rattle.circulation.specs.inside.Steps.{CrossingAt, Nearest};
@@ -42,13 +40,12 @@ pub fn gap_at(arcs: &[u32], flows: &[u32], nodes: &[u32], i: usize) -> usize
     ensures { λ r. ⌜ GapAt (net (now (arcs .entry)) (length (now (flows .entry)))) (at (potentials (now (nodes .entry))))
         (at (now (flows .entry))) (at (ranks (now (nodes .entry)))) i r ⌝ }
 {
-    let t = tail_of(arcs, i);
-    let h = head_of(arcs, i);
-    let stands = get(nodes, h, POTENTIAL) + KINK_ZERO;
-    let asks = get(nodes, t, POTENTIAL) + kink_of(arcs, i);
+    let m = flows.len();
+    let stands = stands_at(arcs, nodes, i, m);
+    let asks = asks_at(arcs, nodes, i, m);
     let x = flow_of(flows, i);
-    let of_tail = get(nodes, t, RANK);
-    if get(nodes, h, RANK) > 0 {
+    let of_tail = at_tail(arcs, nodes, i, RANK, m);
+    if at_head(arcs, nodes, i, RANK, m) > 0 {
         if of_tail > 0 {
             return NEVER;
         }

@@ -2,6 +2,7 @@
 // Numbers are stored with something added, so that all are natural; sums and tests are on 64 bits, the slices hold 32.
 pub mod arc;
 mod augment;
+pub mod ends;
 pub mod finish;
 mod gap;
 pub mod input;

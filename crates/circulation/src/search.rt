@@ -5,6 +5,8 @@ use crate::arc::head_of;
 use crate::arc::high_of;
 use crate::arc::low_of;
 use crate::arc::tail_of;
+use crate::ends::at_head;
+use crate::ends::at_tail;
 use crate::gap::choose;
 use crate::gap::gap_at;
 use crate::nodes::NEED;
@@ -148,13 +150,17 @@ fn room_over(arcs: &[u32], flows: &[u32], nodes: &[u32], i: usize, v: usize) -> 
         (at (rooms (now (nodes .entry)))) i v r ⌝ }
     ensures { λ r. ⌜ r < word-limit ⌝ }
 {
-    let t = tail_of(arcs, i);
     let x = flow_of(flows, i);
-    if t == v {
-        let h = head_of(arcs, i);
-        return least(high_of(arcs, i) - x, get(nodes, h, ROOM));
+    if tail_of(arcs, i) == v {
+        return least(
+            high_of(arcs, i) - x,
+            at_head(arcs, nodes, i, ROOM, flows.len()),
+        );
     }
-    least(x - low_of(arcs, i), get(nodes, t, ROOM))
+    least(
+        x - low_of(arcs, i),
+        at_tail(arcs, nodes, i, ROOM, flows.len()),
+    )
 }
 
 // Node v is reached.

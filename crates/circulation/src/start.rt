@@ -2,18 +2,17 @@
 use crate::arc::flow_of;
 use crate::arc::head_of;
 use crate::arc::high_of;
-use crate::arc::kink_of;
 use crate::arc::low_of;
 use crate::arc::set_flow;
 use crate::arc::tail_of;
+use crate::ends::asks_at;
+use crate::ends::stands_at;
 use crate::limits::NO_FLOW;
 use crate::nodes::NEED;
 use crate::nodes::NEED_ZERO;
-use crate::nodes::POTENTIAL;
 use crate::nodes::fill;
 use crate::nodes::get;
 use crate::nodes::put;
-use network::layout::KINK_ZERO;
 ghost use mathlib.Core.Path.{_≡_};
 ghost use Prim.Native.Nat.{ℕ, _+_, _≤_, _<_};
 ghost use lib.ListN.{length};
@@ -49,11 +48,8 @@ pub fn first_flow(arcs: &[u32], nodes: &[u32], i: usize, m: usize) -> usize
     requires { ⌜ i < m ⌝ }
     ensures { λ r. ⌜ FilledAt (net (now (arcs .entry)) m) (at (potentials (now (nodes .entry)))) i r ⌝ }
 {
-    let t = tail_of(arcs, i);
-    let h = head_of(arcs, i);
-    let k = kink_of(arcs, i);
-    let stands = get(nodes, h, POTENTIAL) + KINK_ZERO;
-    let asks = get(nodes, t, POTENTIAL) + k;
+    let stands = stands_at(arcs, nodes, i, m);
+    let asks = asks_at(arcs, nodes, i, m);
     filled(stands, asks, low_of(arcs, i), high_of(arcs, i))
 }
 

@@ -3,21 +3,22 @@
 use circulation::arc::flow_of;
 use circulation::arc::head_of;
 use circulation::arc::high_of;
-use circulation::arc::kink_of;
 use circulation::arc::low_of;
 use circulation::arc::tail_of;
+use circulation::ends::asks_at;
+use circulation::ends::at_head;
+use circulation::ends::at_tail;
+use circulation::ends::stands_at;
 use circulation::input::low_start;
 use circulation::limits::FLOW_LEAST;
 use circulation::limits::FLOW_MOST;
 use circulation::nodes::NEED;
 use circulation::nodes::NEED_ZERO;
 use circulation::nodes::PARENT;
-use circulation::nodes::POTENTIAL;
 use circulation::nodes::RANK;
 use circulation::nodes::count_of;
 use circulation::nodes::get;
 use circulation::start::count_need;
-use network::layout::KINK_ZERO;
 ghost use mathlib.Core.Path.{_≡_};
 ghost use Prim.Native.Nat.{_≤_, _<_};
 ghost use lib.ListN.{length};
@@ -25,7 +26,7 @@ ghost use Rattle.network.specs.Net.{asks, at, net, stands};
 ghost use Rattle.network.specs.Limits.{«most-nodes»};
 ghost use Rattle.network.specs.WellFormed.{WellFormed};
 ghost use Rattle.circulation.specs.Nodes.{potentials, ranks, size};
-ghost use Rattle.circulation.specs.Input.{First};
+ghost use Rattle.circulation.specs.inside.Slackness.{Small};
 ghost use Rattle.circulation.specs.inside.Optimal.{Support, Supports};
 ghost use Rattle.leftmost.specs.inside.Shown.{Shown};
 ghost use Rattle.leftmost.specs.inside.Optimal.{AllFit, AllSupported, Fits, FitsAt, Level, Passes};
@@ -54,7 +55,7 @@ pub fn optimal(arcs: &[u32], flows: &[u32], nodes: &mut [u32]) -> bool
 // Whether every flow fits the potentials.
 fn all_fit(arcs: &[u32], flows: &[u32], nodes: &[u32]) -> bool
     requires { ⌜ WellFormed (net (now arcs) (length (now flows))) (size (now nodes)) ⌝ }
-    requires { ⌜ First (at (potentials (now nodes))) ⌝ }
+    requires { ⌜ Small (at (potentials (now nodes))) ⌝ }
     ensures { λ r. ⌜ Shown (AllFit (net (now (arcs .entry)) (length (now (flows .entry)))) (at (potentials (now (nodes .entry)))) (at (now (flows .entry)))) r ⌝ }
 {
     let mut i = 0;
@@ -70,7 +71,7 @@ fn all_fit(arcs: &[u32], flows: &[u32], nodes: &[u32]) -> bool
 // Whether the flow on arc i fits the potentials.
 fn fits_at(arcs: &[u32], flows: &[u32], nodes: &[u32], i: usize) -> bool
     requires { ⌜ WellFormed (net (now arcs) (length (now flows))) (size (now nodes)) ⌝ }
-    requires { ⌜ First (at (potentials (now nodes))) ⌝ }
+    requires { ⌜ Small (at (potentials (now nodes))) ⌝ }
     requires { ⌜ i < length (now flows) ⌝ }
     ensures { λ r. ⌜ Shown (FitsAt (net (now (arcs .entry)) (length (now (flows .entry)))) (at (potentials (now (nodes .entry)))) (at (now (flows .entry))) i) r ⌝ }
 {
@@ -83,26 +84,6 @@ fn fits_at(arcs: &[u32], flows: &[u32], nodes: &[u32], i: usize) -> bool
         low_of(arcs, i),
         high_of(arcs, i),
     )
-}
-
-// Where the head of arc i of m stands, with KINK_ZERO added.
-fn stands_at(arcs: &[u32], nodes: &[u32], i: usize, m: usize) -> usize
-    requires { ⌜ WellFormed (net (now arcs) m) (size (now nodes)) ⌝ }
-    requires { ⌜ First (at (potentials (now nodes))) ⌝ }
-    requires { ⌜ i < m ⌝ }
-    ensures { λ r. ⌜ r ≡ stands (net (now (arcs .entry)) m) (at (potentials (now (nodes .entry)))) i ⌝ }
-{
-    get(nodes, head_of(arcs, i), POTENTIAL) + KINK_ZERO
-}
-
-// Where the kink of arc i of m asks the head to stand, with KINK_ZERO added.
-fn asks_at(arcs: &[u32], nodes: &[u32], i: usize, m: usize) -> usize
-    requires { ⌜ WellFormed (net (now arcs) m) (size (now nodes)) ⌝ }
-    requires { ⌜ First (at (potentials (now nodes))) ⌝ }
-    requires { ⌜ i < m ⌝ }
-    ensures { λ r. ⌜ r ≡ asks (net (now (arcs .entry)) m) (at (potentials (now (nodes .entry)))) i ⌝ }
-{
-    get(nodes, tail_of(arcs, i), POTENTIAL) + kink_of(arcs, i)
 }
 
 // Whether a flow can be counted, is within its limits, and is at the limit of the side where the head stands.
@@ -133,7 +114,7 @@ fn fit(stands: usize, asks: usize, x: usize, low: usize, high: usize) -> bool
 // Whether every node but ground is supported.
 fn all_supported(arcs: &[u32], flows: &[u32], nodes: &[u32]) -> bool
     requires { ⌜ WellFormed (net (now arcs) (length (now flows))) (size (now nodes)) ⌝ }
-    requires { ⌜ First (at (potentials (now nodes))) ⌝ }
+    requires { ⌜ Small (at (potentials (now nodes))) ⌝ }
     ensures { λ r. ⌜ Shown (AllSupported (net (now (arcs .entry)) (length (now (flows .entry)))) (size (now (nodes .entry))) (at (potentials (now (nodes .entry)))) (at (now (flows .entry))) (at (ranks (now (nodes .entry))))) r ⌝ }
 {
     let ground = count_of(nodes) - 1;
@@ -150,7 +131,7 @@ fn all_supported(arcs: &[u32], flows: &[u32], nodes: &[u32]) -> bool
 // Whether the arc of its parent supports node v.
 fn supported(arcs: &[u32], flows: &[u32], nodes: &[u32], v: usize) -> bool
     requires { ⌜ WellFormed (net (now arcs) (length (now flows))) (size (now nodes)) ⌝ }
-    requires { ⌜ First (at (potentials (now nodes))) ⌝ }
+    requires { ⌜ Small (at (potentials (now nodes))) ⌝ }
     requires { ⌜ v < size (now nodes) ⌝ }
     ensures { λ r. ⌜ Shown (Support (net (now (arcs .entry)) (length (now (flows .entry)))) (at (potentials (now (nodes .entry)))) (at (now (flows .entry))) (at (ranks (now (nodes .entry)))) v) r ⌝ }
 {
@@ -164,22 +145,30 @@ fn supported(arcs: &[u32], flows: &[u32], nodes: &[u32], v: usize) -> bool
 // Whether arc i supports node v: it is on its kink, its other end is before v, and its flow is not at the limit.
 fn supports(arcs: &[u32], flows: &[u32], nodes: &[u32], v: usize, i: usize) -> bool
     requires { ⌜ WellFormed (net (now arcs) (length (now flows))) (size (now nodes)) ⌝ }
-    requires { ⌜ First (at (potentials (now nodes))) ⌝ }
+    requires { ⌜ Small (at (potentials (now nodes))) ⌝ }
     requires { ⌜ (v < size (now nodes)) × (i < length (now flows)) ⌝ }
     ensures { λ r. ⌜ Shown (Supports (net (now (arcs .entry)) (length (now (flows .entry)))) (at (potentials (now (nodes .entry)))) (at (now (flows .entry))) (at (ranks (now (nodes .entry)))) v i) r ⌝ }
 {
     if asks_at(arcs, nodes, i, flows.len()) != stands_at(arcs, nodes, i, flows.len()) {
         return false;
     }
-    let t = tail_of(arcs, i);
-    let h = head_of(arcs, i);
     let x = flow_of(flows, i);
     let place = get(nodes, v, RANK);
-    if t == v {
-        return both_less(get(nodes, h, RANK), place, x, high_of(arcs, i));
+    if tail_of(arcs, i) == v {
+        return both_less(
+            at_head(arcs, nodes, i, RANK, flows.len()),
+            place,
+            x,
+            high_of(arcs, i),
+        );
     }
-    if h == v {
-        return both_less(get(nodes, t, RANK), place, low_of(arcs, i), x);
+    if head_of(arcs, i) == v {
+        return both_less(
+            at_tail(arcs, nodes, i, RANK, flows.len()),
+            place,
+            low_of(arcs, i),
+            x,
+        );
     }
     false
 }

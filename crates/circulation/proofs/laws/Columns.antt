@@ -1,8 +1,7 @@
 -- Packed numbers as columns: a store changes one place of one column. By extensionality of lists.
 use Rattle.network.specs.Net.{at}
 use Rattle.circulation.specs.laws.Columns.{column-length, column-at, column-past}
-use Rattle.circulation.specs.Nodes.{column, potentials, ranks, rooms, size, node-stride}
-use Rattle.network.specs.Limits.{most-nodes}
+use Rattle.circulation.specs.Nodes.{column, ranks, rooms, node-stride}
 use Rattle.circulation.specs.inside.Stores.{Stored, Apart, Reaches, Begun}
 use mathlib.Core.Path.{_≡_, refl, sym, ap, _∙_}
 use mathlib.Core.List.{List}
@@ -12,11 +11,6 @@ use native.Mathlib.Omega.{arith}
 use borrow.Author.Count.{below-none, below-more}
 use lib.ListN.{length, set, length-set}
 use lib.Seq.{getD-set-same, getD-set-other, set-getD, ext-getD}
-
--- a node of the potentials is in the slice, and so is number k of it
-pub node-there : (nodes : List ℕ) {v u k : ℕ} → v ≡ u → u < length (potentials nodes) → length (potentials nodes) ≤ most-nodes
-    → k < node-stride → (v < size nodes) × (v < most-nodes) × (k < node-stride)
-node-there nodes e in-it few k-in = (omega (arith, column-length 0 nodes), omega arith, k-in)
 
 module _ (k v a : ℕ) (nodes : List ℕ) (k-in : k < node-stride) (v-in : v < length nodes / node-stride) where
   -- a store keeps the count of nodes

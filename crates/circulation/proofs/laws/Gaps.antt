@@ -1,22 +1,32 @@
 -- The gap of an arc is the step at which it lets a node be reached, and a scan finds the least: case by case on which end
 -- is reached.
-use Rattle.network.specs.Net.{Net, arcs, tail, head, low, high, asks, stands}
+use Rattle.network.specs.Net.{at, Net, arcs, tail, head, asks, stands}
 use Rattle.circulation.specs.inside.Search.{Enters, Leaves, Distance, never, Gap, GapAt, Crosses, Crossing, step}
-use Rattle.circulation.specs.inside.Slackness.{Small}
+use Rattle.circulation.specs.inside.Slackness.{Ready}
+use Rattle.circulation.specs.Nodes.{potentials, size}
+use Rattle.circulation.specs.laws.Columns.{column-length}
+use Rattle.network.specs.WellFormed.{WellFormed}
+use mathlib.Core.List.{List}
 use Rattle.circulation.specs.inside.Steps.{Nearest}
-use Rattle.network.specs.Limits.{kink-most}
-use Rattle.network.specs.Packed.{word-limit, kink-zero}
-use mathlib.Core.Path.{_≡_}
+use Rattle.network.specs.Packed.{word-limit}
+use mathlib.Core.Path.{_≡_, subst}
 use mathlib.Core.Logic.{inl, inr, ⊎-elim}
 use Prim.Native.Nat.{ℕ, _+_, _≤_, _<_}
 use native.Mathlib.Decide.{decLt}
 use native.Mathlib.Omega.{arith}
 use borrow.Author.Count.{below-none, below-more}
 
+-- what is ready is so of the nodes as they are packed
+pub ready-nodes : {N : Net} {x order : List ℕ} (nodes : List ℕ) → Ready N (potentials nodes) x order → WellFormed N (size nodes)
+ready-nodes {N} nodes r = subst (λ (n : ℕ). WellFormed N n) (column-length 0 nodes) (r .wf)
+
 -- where an arc stands and where it asks to stand are numbers of 32 bits
-pub sides-small : (p : ℕ → ℕ) (t h most : ℕ) {a b k : ℕ} → Small p → a ≡ p h → b ≡ p t → k ≡ most → most ≤ kink-most
-    → (a + kink-zero < word-limit) × (b + k < word-limit)
-sides-small p t h most p-in ea eb ek few = (omega (arith, p-in h), omega (arith, p-in t))
+pub sides-small : {N : Net} {p x order : List ℕ} {i : ℕ} → Ready N p x order → i < arcs N
+    → (stands N (at p) i < word-limit) × (asks N (at p) i < word-limit)
+sides-small {N} {i = i} r l = (
+  omega (arith, r .p-in (head N i)),
+  omega (arith, r .p-in (tail N i), r .wf .arc-in i l .kink-high),
+)
 
 module _ {a b h t x l c : ℕ} where
   -- an arc that does not cross has no step
@@ -59,24 +69,6 @@ module _ {a b h t x l c : ℕ} where
   -- nor has one between other nodes
   pub both-out : h ≡ 0 → t ≡ 0 → Gap a b h t x l c never
   both-out of-head of-tail = no-step (λ e. omega (arith, e .from)) (λ e. omega (arith, e .from))
-
--- a distance, by equal numbers
-same-distance : {a a′ b b′ x x′ c c′ r : ℕ} → a ≡ a′ → b ≡ b′ → x ≡ x′ → c ≡ c′ → Distance a b x c r → Distance a′ b′ x′ c′ r
-same-distance ea eb ex ec d = record {
-  some = λ few. (omega (arith, d .some few .0), omega (arith, d .some few .1), omega (arith, d .some few .2));
-  least = λ l m. (omega (arith, d .least (omega arith) (omega arith) .0), d .least (omega arith) (omega arith) .1);
-}
-
-module _ (N : Net) (p x order : ℕ → ℕ) (i : ℕ) where
-  -- the step of arc i, from the numbers read: its head is reached
-  pub gap-enter : {a b y c r : ℕ} → a ≡ stands N p i → b ≡ asks N p i → y ≡ x i → c ≡ high N i → 0 < order (head N i)
-      → order (tail N i) ≡ 0 → Distance a b y c r → GapAt N p x order i r
-  gap-enter ea eb ey ec from to d = entering from to (same-distance ea eb ey ec d)
-
-  -- its tail is reached
-  pub gap-leave : {a b y c r : ℕ} → a ≡ stands N p i → b ≡ asks N p i → y ≡ x i → c ≡ low N i → 0 < order (tail N i)
-      → order (head N i) ≡ 0 → Distance b a c y r → GapAt N p x order i r
-  gap-leave ea eb ey ec from to d = leaving from to (same-distance eb ea ec ey d)
 
 -- among the first i arcs, arc has the least step, best; never where none crosses
 pub record Seeking (N : Net) (p x order : ℕ → ℕ) (best arc i : ℕ) : Type 0 where

@@ -1,13 +1,13 @@
 -- The flows and needs at the start fit the potentials: each arc by where it stands.
 use Rattle.network.specs.laws.SumsTo.{sum-to-le, sum-to-add, sum-to-bound}
 use Rattle.network.specs.Net.{at, Net, net, arcs, tail, head, low, high, asks, stands}
-use Rattle.circulation.specs.inside.Slackness.{flow, inflow, outflow, Slack, Filled, FilledAt}
+use Rattle.circulation.specs.inside.Slackness.{flow, inflow, outflow, Slack, FilledAt}
 use Rattle.network.specs.WellFormed.{WellFormed}
 use Rattle.circulation.specs.Input.{LowIn, HighIn, LimitsIn, Limited, Feasible, Valid}
 use Rattle.circulation.specs.Nodes.{potentials, needs, node-stride, need-zero}
 use Rattle.circulation.specs.inside.Stores.{Apart}
 use Rattle.circulation.specs.inside.Search.{Need, surplus, State}
-use mathlib.Core.Path.{_≡_, refl, sym, subst, _∙_}
+use mathlib.Core.Path.{_≡_, refl, sym, subst}
 use mathlib.Core.List.{List}
 use Prim.Native.Nat.{ℕ, _+_, _-_, _/_, _≤_, _<_}
 use native.Mathlib.Decide.{ℕ-discrete, decLt}
@@ -114,16 +114,7 @@ first-state {N} {n} {p} x e v p-size x-size e-size filled need =
       spare-low = rw p-size (λ i l hard. omega (arith, few, first-near (at p) (at x) (v .wf) (v .limited) (v .feasible) filled i l .0));
     }
 
--- a flow to start with, from the numbers read
-pub filled-by : (N : Net) (p : ℕ → ℕ) (i a b l h r : ℕ) → a ≡ stands N p i → b ≡ asks N p i → l ≡ low N i → h ≡ high N i
-    → Filled a b l h r → FilledAt N p i r
-filled-by N p i a b l h r ea eb el eh f = record {
-  left = λ less. f .left (omega arith) ∙ el;
-  right = λ less. f .right (omega arith) ∙ eh;
-  on = λ same. f .on (omega arith);
-}
-
--- it is at most 2 ^ 29
+-- a flow to start with is at most 2 ^ 29
 pub filled-top : (N : Net) (p : ℕ → ℕ) (i y : ℕ) → LimitsIn N i → FilledAt N p i y → y ≤ high-none
 filled-top N p i y a f =
     go (decLt (stands N p i) (asks N p i)) (decLt (asks N p i) (stands N p i)) (ℕ-discrete (high N i) high-none)

@@ -1,6 +1,7 @@
 -- `leftmost::optimal::optimal` meets its contract: the tests together show what is asked.
 use Rattle.leftmost.proofs.laws.Passes.{passes}
 use Rattle.leftmost.proofs.laws.Shown.{shown-past, shown-map}
+use Rattle.circulation.proofs.laws.Valids.{first-small}
 use Rattle.network.specs.laws.TestedAnswers.{tested-yes}
 use borrow.Author.Tests.{not-false}
 use borrow.Author.Needs.{needs}
@@ -23,7 +24,7 @@ all-fit-requires : tie.Need-all-fit-requires
 all-fit-requires c κs =
     let start = c .before .before .before .before .before .before .before .before in
     let low-start = c .before .before .low-start in
-    (start .pre, tested-yes (low-start .result) (low-start .ensures) (not-false (low-start .result) (c .before .if1 .left)))
+    (start .pre, first-small (tested-yes (low-start .result) (low-start .ensures) (not-false (low-start .result) (c .before .if1 .left))))
 
 same-length-2 : tie.Need-same-length-2
 same-length-2 c = search needs
@@ -36,7 +37,7 @@ all-supported-requires c κs =
     let start = c .before .before .before .before .before .before .before .before .before .before .before in
     let low-start = c .before .before .before .before .before .low-start in
     let if1 = c .before .before .before .before .if1 in
-    (start .pre, tested-yes (low-start .result) (low-start .ensures) (not-false (low-start .result) (if1 .left)))
+    (start .pre, first-small (tested-yes (low-start .result) (low-start .ensures) (not-false (low-start .result) (if1 .left))))
 
 same-length-3 : tie.Need-same-length-3
 same-length-3 c = search needs
