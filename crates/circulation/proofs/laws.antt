@@ -9,6 +9,7 @@ pub mod Finishes
 pub mod Floods
 pub mod Flows
 pub mod Gaps
+pub mod Growing
 pub mod Leftmost
 pub mod Moves
 pub mod Parts

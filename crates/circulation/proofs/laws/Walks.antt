@@ -4,7 +4,7 @@ use Rattle.network.specs.laws.SumsTo.{at-set}
 use Rattle.network.specs.Net.{at, Net, arcs, tail, head, low, high, stands, asks}
 use Rattle.circulation.specs.inside.Slackness.{pick, flow, inflow, outflow, Slack}
 use Rattle.network.specs.WellFormed.{WellFormed}
-use Rattle.circulation.specs.inside.Search.{surplus, Link, Reached, Amount, Pushable, Pushed, Walked}
+use Rattle.circulation.specs.inside.Search.{surplus, FromHead, FromTail, Link, Reached, Amount, Pushable, Pushed, Walked}
 use mathlib.Core.Path.{_≡_, refl, subst, ap, _∙_}
 use mathlib.Core.Logic.{_⊎_, ⊎-elim}
 use mathlib.Core.List.{List}
@@ -187,7 +187,7 @@ module _ {N : Net} {s t d : ℕ} {p x₀ e order via room : List ℕ} where
         lower : (k : ℕ) → u ≡ k → at order k < at order v → at order u < at order v
         lower k is low = rw is low
 
-        up : (tail N (at via v) ≡ v) × (0 < at order (head N (at via v))) × (at order (head N (at via v)) < at order v) × (at x₀ (at via v) + at room v ≤ high N (at via v)) × (at room v ≤ at room (head N (at via v)))
+        up : FromHead N (at x₀) (at order) (at room) v (at via v)
             → Walking N s t d p x₀ e order via room x′ u × (at order u < at order v)
         up c =
             let is = m .up (c .0) .0 in
@@ -208,7 +208,7 @@ module _ {N : Net} {s t d : ℕ} {p x₀ e order via room : List ℕ} where
               low,
             )
 
-        down : (head N (at via v) ≡ v) × (0 < at order (tail N (at via v))) × (at order (tail N (at via v)) < at order v) × (low N (at via v) + at room v ≤ at x₀ (at via v)) × (at room v ≤ at room (tail N (at via v)))
+        down : FromTail N (at x₀) (at order) (at room) v (at via v)
             → Walking N s t d p x₀ e order via room x′ u × (at order u < at order v)
         down c =
             let ne : tail N (at via v) ≡ v → ⊥ = λ h. omega (arith, ap (at order) h, c .2) in

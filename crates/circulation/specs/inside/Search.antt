@@ -73,15 +73,22 @@ pub record Distance (from to less more r : ℕ) : Type 0 where
   pub some : r < never → (from ≤ to) × (less < more) × (r ≡ to - from)
   pub least : from ≤ to → less < more → (r ≡ to - from) × (r < never)
 
--- node v was reached over the arc i, which is on its kink, from a node of a lower rank; v's room is at most that node's
--- and the arc's residual
+-- arc i leads to v from its head, which is of a lower rank; v's room is at most the head's and what the arc can take
+abbrev pub FromHead : Net → (x order room : ℕ → ℕ) → (v i : ℕ) → Type 0
+FromHead N x order room v i =
+    (tail N i ≡ v) × (0 < order (head N i)) × (order (head N i) < order v) × (x i + room v ≤ high N i) × (room v ≤ room (head N i))
+
+-- the same from its tail, and what the arc can give back
+abbrev pub FromTail : Net → (x order room : ℕ → ℕ) → (v i : ℕ) → Type 0
+FromTail N x order room v i =
+    (head N i ≡ v) × (0 < order (tail N i)) × (order (tail N i) < order v) × (low N i + room v ≤ x i) × (room v ≤ room (tail N i))
+
+-- node v was reached over the arc i, which is on its kink
 pub record Link (N : Net) (p x order room : ℕ → ℕ) (v i : ℕ) : Type 0 where
   pub arc-in : i < arcs N
   pub tight : asks N p i ≡ stands N p i
   pub some : 0 < room v
-  pub ends :
-      ((tail N i ≡ v) × (0 < order (head N i)) × (order (head N i) < order v) × (x i + room v ≤ high N i) × (room v ≤ room (head N i)))
-      ⊎ ((head N i ≡ v) × (0 < order (tail N i)) × (order (tail N i) < order v) × (low N i + room v ≤ x i) × (room v ≤ room (tail N i)))
+  pub ends : FromHead N x order room v i ⊎ FromTail N x order room v i
 
 -- the reached nodes: s is the first, and each other was reached over an arc
 pub record Tree (N : Net) (n s : ℕ) (p x order via room : ℕ → ℕ) : Type 0 where

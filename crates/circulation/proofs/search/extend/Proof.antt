@@ -2,7 +2,7 @@
 use Rattle.network.specs.Net.{net}
 use Rattle.network.specs.WellFormed.{WellFormed}
 use Rattle.circulation.proofs.laws.Rooms.{far-in, extended}
-use Rattle.circulation.proofs.laws.Trees.{raise-fits, crossing-room}
+use Rattle.circulation.proofs.laws.Growing.{raise-fits, crossing-room}
 use Rattle.circulation.specs.laws.Columns.{column-length}
 use lib.ListN.{length}
 use mathlib.Core.Path.{subst, sym, ap, _∙_}

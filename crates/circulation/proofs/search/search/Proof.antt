@@ -3,7 +3,7 @@ use Rattle.circulation.specs.inside.Search.{Reached}
 use Rattle.circulation.specs.Nodes.{column, potentials, ranks, parents, rooms, node-stride}
 use Rattle.network.specs.Net.{net}
 use Rattle.circulation.proofs.laws.Searches.{Searching, search-start, search-next, search-found, search-crosses}
-use Rattle.circulation.proofs.laws.Trees.{crossing-room}
+use Rattle.circulation.proofs.laws.Growing.{crossing-room}
 use Rattle.circulation.proofs.laws.Rooms.{new-there}
 use Rattle.circulation.specs.laws.Columns.{column-length, column-at}
 use lib.ListN.{length, getD}
