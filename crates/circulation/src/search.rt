@@ -21,16 +21,16 @@ use crate::nodes::least;
 use crate::nodes::put;
 use crate::raise::raise_reached;
 ghost use mathlib.Core.Path.{_≡_};
-ghost use Prim.Native.Nat.{_+_, _*_, _≤_, _<_};
+ghost use Prim.Native.Nat.{_≤_, _<_};
 ghost use lib.ListN.{length};
 ghost use Rattle.circulation.specs.inside.Stores.{Begun, Reaches};
 ghost use Rattle.circulation.specs.inside.Steps.{CrossingAt, Extended, Flooded, GrownAt, Searches, Source, StateAt};
 ghost use Rattle.circulation.specs.inside.Search.{RoomOver};
 ghost use Rattle.network.specs.WellFormed.{WellFormed};
 ghost use Rattle.circulation.specs.Input.{Limited, Rooted};
-ghost use Rattle.network.specs.Net.{at, high, low, net};
-ghost use Rattle.network.specs.Packed.{«head-at», stride, «tail-at», «word-limit»};
-ghost use Rattle.network.specs.Limits.{«most-arcs», «most-nodes»};
+ghost use Rattle.network.specs.Net.{at, head, high, low, net, tail};
+ghost use Rattle.network.specs.Packed.{«word-limit»};
+ghost use Rattle.network.specs.Limits.{«most-nodes»};
 ghost use Rattle.circulation.specs.Nodes.{«need-zero», needs, ranks, rooms, size};
 
 // A node with less inflow than outflow, the last one.
@@ -117,24 +117,23 @@ fn extend(
     let i = choose(arcs, flows, nodes, start);
     let d = gap_at(arcs, flows, nodes, i);
     raise_reached(nodes, d);
-    let v = far(arcs, nodes, i);
+    let v = far(arcs, nodes, i, flows.len());
     let room = room_over(arcs, flows, nodes, i, v);
     reach(nodes, v, count + 1, i, room);
     v
 }
 
-// The end of arc i that is not reached, where the other is.
-fn far(arcs: &[u32], nodes: &[u32], i: usize) -> usize
-    requires { ⌜ (stride * i + stride ≤ length (now arcs)) × (i < most-arcs)
-        × (at (now arcs) (stride * i + head-at) < size (now nodes)) × (size (now nodes) ≤ most-nodes) ⌝ }
-    ensures { λ r. ⌜ (at (ranks (now (nodes .entry))) (at (now (arcs .entry)) (stride * i + head-at)) ≡ 0
-        → r ≡ at (now (arcs .entry)) (stride * i + head-at)) ⌝ }
-    ensures { λ r. ⌜ (0 < at (ranks (now (nodes .entry))) (at (now (arcs .entry)) (stride * i + head-at))
-        → r ≡ at (now (arcs .entry)) (stride * i + tail-at)) ⌝ }
+// The end of arc i of m that is not reached, where the other is.
+fn far(arcs: &[u32], nodes: &[u32], i: usize, m: usize) -> usize
+    requires { ⌜ WellFormed (net (now arcs) m) (size (now nodes)) ⌝ }
+    requires { ⌜ i < m ⌝ }
+    ensures { λ r. ⌜ (at (ranks (now (nodes .entry))) (head (net (now (arcs .entry)) m) i) ≡ 0
+        → r ≡ head (net (now (arcs .entry)) m) i) ⌝ }
+    ensures { λ r. ⌜ (0 < at (ranks (now (nodes .entry))) (head (net (now (arcs .entry)) m) i)
+        → r ≡ tail (net (now (arcs .entry)) m) i) ⌝ }
 {
-    let h = head_of(arcs, i);
-    if get(nodes, h, RANK) == 0 {
-        return h;
+    if at_head(arcs, nodes, i, RANK, m) == 0 {
+        return head_of(arcs, i);
     }
     tail_of(arcs, i)
 }

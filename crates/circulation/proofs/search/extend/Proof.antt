@@ -1,16 +1,12 @@
 -- `circulation::search::extend` meets its contract: the nearest arc is brought onto its kink, and its other end reached.
-use Rattle.network.specs.Net.{net}
-use Rattle.network.specs.WellFormed.{WellFormed}
 use Rattle.circulation.proofs.laws.Rooms.{far-in, extended}
+use Rattle.circulation.proofs.laws.Gaps.{ready-nodes}
 use Rattle.circulation.proofs.laws.Growing.{raise-fits, crossing-room}
 use Rattle.circulation.specs.laws.Columns.{column-length}
-use lib.ListN.{length}
-use mathlib.Core.Path.{subst, sym, ap, _∙_}
-use Prim.Native.Nat.{ℕ, _/_}
+use mathlib.Core.Path.{_∙_}
 use native.Mathlib.Omega.{arith}
 use Rattle.circulation.proofs.search.extend.Statement.{statement}
 use Rattle.circulation.proofs.search.extend.Tie as tie
-use Rattle.circulation.specs.Nodes.{node-stride}
 
 choose-requires : tie.Need-choose-requires
 choose-requires c κs =
@@ -40,20 +36,8 @@ far-requires c κs =
     let start = c .before .before .before .before .before .before .before .before .before .before .before .before in
     let choose = c .before .before .before .before .before .before .before .choose in
     let raise-reached = c .before .before .before .raise-reached in (
-      omega (arith, choose .ensures .0, start .pre .0 .ready .wf .room),
-      omega (arith, choose .ensures .0, start .pre .0 .ready .wf .few),
-      omega (
-        arith,
-        start .pre .0 .ready .wf .arc-in (choose .result) (choose .ensures .0) .head-in,
-        column-length 0 (start .args .nodes .now),
-        raise-reached .ensures .1 .length-same,
-      ),
-      omega (
-        arith,
-        start .pre .0 .ready .wf .nodes,
-        column-length 0 (start .args .nodes .now),
-        raise-reached .ensures .1 .length-same,
-      ),
+      rw (raise-reached .ensures .1 .length-same) (ready-nodes (start .args .nodes .now) (start .pre .0 .ready)),
+      choose .ensures .0,
     )
 
 room-over-requires : tie.Need-room-over-requires
@@ -61,10 +45,7 @@ room-over-requires c κs =
     let start = c .before .before .before .before .before .before .before .before .before .before .before .before .before .before in
     let choose = c .before .before .before .before .before .before .before .before .before .choose in
     let raise-reached = c .before .before .before .before .before .raise-reached in (
-      subst (λ (n : ℕ). WellFormed (net (start .args .arcs .now) (length (start .args .flows .now))) n)
-          (column-length 0 (start .args .nodes .now)
-          ∙ sym (ap (λ (k : ℕ). k / node-stride) (raise-reached .ensures .1 .length-same)))
-          (start .pre .0 .ready .wf),
+      rw (raise-reached .ensures .1 .length-same) (ready-nodes (start .args .nodes .now) (start .pre .0 .ready)),
       (
         choose .ensures .0,
         (start .pre .0 .slack .within (choose .result) (choose .ensures .0), start .pre .0 .ready .limited),
