@@ -1,8 +1,9 @@
 //! Times the library on kinds of sheets, in turn with a peer that solves the same networks.
 //!
 //! Run with the name of a kind of full size, it only draws each sheet of that kind once: valgrind counts
-//! the instructions of these calls.
+//! the instructions of these calls. Run with `climb`, it looks for sheets that take long.
 
+mod climb;
 mod clock;
 mod measure;
 mod peer;
@@ -22,6 +23,7 @@ use table::{cells, print_head, print_row};
 /// Prints the tables, or draws the sheets of one kind. Cargo adds an argument of its own.
 fn main() {
     match env::args().skip(1).find(|argument| argument != "--bench") {
+        Some(name) if name == "climb" => climb::print_worst(&Clock::new()),
         Some(name) => draw_each(&name),
         None => print_tables(),
     }

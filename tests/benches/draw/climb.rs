@@ -1,0 +1,101 @@
+//! Sheets that take long, found by hill-climbing: a sheet is changed a little, and the change is kept where
+//! drawing it takes longer.
+
+use crate::clock::Clock;
+use crate::measure::Drawn;
+use crate::peer::Peer;
+use crate::sample::Sample;
+use strip_tests::draft::{Draft, Separation};
+use strip_tests::kinds::full;
+use strip_tests::random::Random;
+
+/// How many changes are tried with each sheet to start from.
+const TRIES: usize = 5_000;
+/// How many times a changed sheet is drawn; the least time counts.
+const DRAWS: usize = 3;
+/// The greatest minimum separation that a change sets.
+const MINIMUM: u16 = 60;
+
+/// Prints the time of the worst sheet found from the worst of each kind of full size, and the peer's.
+pub fn print_worst(clock: &Clock) {
+    let mut random = Random::new(3);
+    let mut peers = Peer::start();
+    println!("microseconds for the worst sheets found by hill-climbing: draw, LEMON, LEMON fast");
+    for kind in full() {
+        let worst = climb(clock, &mut random, slowest(clock, kind.sheets));
+        let mut samples = [Sample::new(worst.bytes())];
+        let drawn = match &mut peers {
+            Some(peers) => Drawn::in_turn(clock, peers, &mut samples),
+            None => Drawn::alone(clock, &mut samples),
+        };
+        println!("{}: {:.0?} {:.0?}", kind.name, drawn.library, drawn.peers);
+    }
+}
+
+/// The sheet that takes longest.
+fn slowest(clock: &Clock, sheets: Vec<Draft>) -> Draft {
+    let timed = sheets.into_iter().map(|draft| (time(clock, &draft), draft));
+    let longest = timed.max_by(|(a, _), (b, _)| a.partial_cmp(b).expect("times"));
+    longest.expect("a sheet").1
+}
+
+/// The worst sheet found from a sheet.
+fn climb(clock: &Clock, random: &mut Random, start: Draft) -> Draft {
+    let mut worst = start;
+    let mut longest = time(clock, &worst).expect("a drawing");
+    for _ in 0..TRIES {
+        let mut draft = worst.clone();
+        for _ in 0..random.within(1..=4) {
+            change(random, &mut draft);
+        }
+        match time(clock, &draft) {
+            Some(time) if time > longest => (worst, longest) = (draft, time),
+            _ => {}
+        }
+    }
+    worst
+}
+
+/// The least microseconds for drawing a sheet, if it has a drawing.
+fn time(clock: &Clock, draft: &Draft) -> Option<f64> {
+    let mut sample = Sample::new(draft.bytes());
+    let mut least = f64::INFINITY;
+    for _ in 0..DRAWS {
+        let (time, total) = clock.time(|| sample.draw());
+        total?;
+        least = least.min(time);
+    }
+    Some(least)
+}
+
+/// Changes the width, a separation or, most often, the ends of an edge.
+fn change(random: &mut Random, draft: &mut Draft) {
+    match random.index(8) {
+        0 => draft.width = (draft.width + random.within(0..=20)).saturating_sub(10),
+        1 | 2 => change_separation(random, draft),
+        _ => change_edge(random, draft),
+    }
+}
+
+/// Gives two neighbours of a layer another minimum separation and no maximum.
+fn change_separation(random: &mut Random, draft: &mut Draft) {
+    let index = random.index(draft.layers.len());
+    let layer = &mut draft.layers[index];
+    if !layer.is_empty() {
+        let index = random.index(layer.len());
+        layer[index] = Separation {
+            minimum: random.within(1..=MINIMUM),
+            maximum: 0,
+        };
+    }
+}
+
+/// Gives an edge other ends in its layers.
+fn change_edge(random: &mut Random, draft: &mut Draft) {
+    let index = random.index(draft.edges.len());
+    let edge = &mut draft.edges[index];
+    let upper = usize::from(edge.layer) - 1;
+    let count = |layer: usize| draft.layers[layer].len() as u16 + 1;
+    edge.upper = random.within(1..=count(upper));
+    edge.lower = random.within(1..=count(upper + 1));
+}
