@@ -2,11 +2,8 @@
 //! drawing it takes longer.
 
 use crate::clock::Clock;
-use crate::measure::Drawn;
-use crate::peer::Peer;
 use crate::sample::Sample;
 use strip_tests::draft::{Draft, Separation};
-use strip_tests::kinds::full;
 use strip_tests::random::Random;
 
 /// How many changes are tried with each sheet to start from.
@@ -16,20 +13,9 @@ const DRAWS: usize = 3;
 /// The greatest minimum separation that a change sets.
 const MINIMUM: u16 = 60;
 
-/// Prints the time of the worst sheet found from the worst of each kind of full size, and the peer's.
-pub fn print_worst(clock: &Clock) {
-    let mut random = Random::new(3);
-    let mut peers = Peer::start();
-    println!("microseconds for the worst sheets found by hill-climbing: draw, LEMON, LEMON fast");
-    for kind in full() {
-        let worst = climb(clock, &mut random, slowest(clock, kind.sheets));
-        let mut samples = [Sample::new(worst.bytes())];
-        let drawn = match &mut peers {
-            Some(peers) => Drawn::in_turn(clock, peers, &mut samples),
-            None => Drawn::alone(clock, &mut samples),
-        };
-        println!("{}: {:.0?} {:.0?}", kind.name, drawn.library, drawn.peers);
-    }
+/// The worst sheet found from the one of these that takes longest.
+pub fn worst(clock: &Clock, random: &mut Random, sheets: Vec<Draft>) -> Draft {
+    climb(clock, random, slowest(clock, sheets))
 }
 
 /// The sheet that takes longest.

@@ -18,12 +18,13 @@ use peer::Peer;
 use sample::Sample;
 use strip_tests::count::millions;
 use strip_tests::kinds::{bad, full, panels, undrawn, with_nodes, Kind};
+use strip_tests::random::Random;
 use table::{cells, print_head, print_row};
 
-/// Prints the tables, or draws the sheets of one kind. Cargo adds an argument of its own.
+/// Prints the tables or that of climbing, or draws the sheets of one kind. Cargo adds an argument of its own.
 fn main() {
     match env::args().skip(1).find(|argument| argument != "--bench") {
-        Some(name) if name == "climb" => climb::print_worst(&Clock::new()),
+        Some(name) if name == "climb" => print_climbed(),
         Some(name) => draw_each(&name),
         None => print_tables(),
     }
@@ -63,9 +64,33 @@ fn print_tables() {
     print_refused(&clock, "bad sheets", bad.collect());
 }
 
+/// Prints the table of drawing the worst sheet that climbing finds from each kind of full size.
+fn print_climbed() {
+    let clock = Clock::new();
+    let mut random = Random::new(3);
+    let climbed = full().into_iter().map(|kind| Kind {
+        name: kind.name,
+        sheets: vec![climb::worst(&clock, &mut random, kind.sheets)],
+    });
+    let climbed: Vec<Kind> = climbed.collect();
+    let mut peers = print_drawn_head();
+    print_rows(&clock, &mut peers, &climbed, |_| None);
+}
+
 /// Prints the table of drawing; sheets of full size have a row for all of them, too.
 fn print_drawn(clock: &Clock, full: &[Kind], others: &[Kind]) {
-    let mut peers = Peer::start();
+    let mut peers = print_drawn_head();
+    let all = print_rows(clock, &mut peers, full, |kind| {
+        let count = kind.sheets.len() as f64;
+        millions(&[&kind.name]).map(|millions| millions / count)
+    });
+    print_times("all of full size", &all, None);
+    print_rows(clock, &mut peers, others, |_| None);
+}
+
+/// Prints the head of a table of drawing, and starts the peer that it is to have.
+fn print_drawn_head() -> Option<[Peer; 2]> {
+    let peers = Peer::start();
     if peers.is_none() {
         println!("no peer: g++ or LEMON is missing");
     }
@@ -77,22 +102,26 @@ fn print_drawn(clock: &Clock, full: &[Kind], others: &[Kind]) {
         "/ LEMON, fast",
     ];
     print_head(&heads, "  million instructions");
-    let mut draw = |kind: &Kind| match &mut peers {
-        Some(peers) => Drawn::in_turn(clock, peers, &mut samples(kind)),
-        None => Drawn::alone(clock, &mut samples(kind)),
-    };
+    peers
+}
+
+/// Prints a row of drawing for each kind, with the instructions where they are counted; the times of all.
+fn print_rows(
+    clock: &Clock,
+    peers: &mut Option<[Peer; 2]>,
+    kinds: &[Kind],
+    instructions: fn(&Kind) -> Option<f64>,
+) -> Drawn {
     let mut all = Drawn::default();
-    for kind in full {
-        let drawn = draw(kind);
-        let count = kind.sheets.len() as f64;
-        let millions = millions(&[&kind.name]).map(|millions| millions / count);
-        print_times(&kind.name, &drawn, millions);
+    for kind in kinds {
+        let drawn = match peers {
+            Some(peers) => Drawn::in_turn(clock, peers, &mut samples(kind)),
+            None => Drawn::alone(clock, &mut samples(kind)),
+        };
+        print_times(&kind.name, &drawn, instructions(kind));
         all.extend(drawn);
     }
-    print_times("all of full size", &all, None);
-    for kind in others {
-        print_times(&kind.name, &draw(kind), None);
-    }
+    all
 }
 
 /// Prints a row of drawing, with the instructions for a sheet where they are counted.
