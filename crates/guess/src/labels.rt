@@ -1,4 +1,5 @@
 // Nodes that are reached, and nodes that will be: a label says how far the source has risen then.
+use crate::entries::end_after;
 use crate::layout::DEFICIT;
 use crate::layout::DEFICIT_ZERO;
 use crate::layout::ENTRY_NODE;
@@ -13,7 +14,6 @@ use crate::layout::PARENT;
 use crate::layout::POTENTIAL;
 use crate::layout::REACHED;
 use crate::layout::RISEN;
-use crate::scan::end_after;
 use crate::slots::NONE;
 use crate::slots::ahead;
 use crate::slots::kink_of;

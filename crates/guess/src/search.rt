@@ -16,9 +16,9 @@ use crate::layout::RISEN;
 use crate::scan::scan;
 use crate::slots::NONE;
 use crate::slots::narrow;
-use crate::slots::of_node;
 use crate::slots::read;
 use crate::slots::set_node;
+use crate::slots::shift;
 use crate::slots::write;
 use crate::stacks::height;
 use crate::stacks::nth;
@@ -99,9 +99,7 @@ fn raise(nodes: &mut [u32], room: &[u32], d: u32) {
     let count = height(room, REACHED);
     let mut j: u32 = 0;
     while j < count {
-        let w = nth(room, REACHED, j);
-        let p = of_node(nodes, w, POTENTIAL);
-        set_node(nodes, w, POTENTIAL, narrow(p as usize + d as usize));
+        shift(nodes, nth(room, REACHED, j), POTENTIAL, d, 0);
         j += 1;
     }
 }

@@ -21,20 +21,8 @@ loop-holds c = search needs
 nth-requires : tie.Need-nth-requires Inv-loop μ-loop
 nth-requires c κs = search needs
 
-of-node-requires : tie.Need-of-node-requires Inv-loop μ-loop
-of-node-requires c κs = search needs
-
-cast-narrow : tie.Need-cast-narrow Inv-loop μ-loop
-cast-narrow c = search needs
-
-add-narrow : tie.Need-add-narrow Inv-loop μ-loop
-add-narrow c = search needs
-
-narrow-requires : tie.Need-narrow-requires Inv-loop μ-loop
-narrow-requires c κs = search needs
-
-set-node-requires : tie.Need-set-node-requires Inv-loop μ-loop
-set-node-requires c κs = search needs
+shift-requires : tie.Need-shift-requires Inv-loop μ-loop
+shift-requires c κs = search needs
 
 add-j : tie.Need-add-j Inv-loop μ-loop
 add-j c = search needs
@@ -60,11 +48,7 @@ raise-spec =
     height-requires
     loop-holds
     nth-requires
-    of-node-requires
-    cast-narrow
-    add-narrow
-    narrow-requires
-    set-node-requires
+    shift-requires
     add-j
     loop-less
     loop-again
