@@ -8,12 +8,12 @@ pub mod Cuts
 pub mod Finishes
 pub mod Floods
 pub mod Flows
-pub mod Gaps
 pub mod Growing
+pub mod LeastStep
 pub mod Leftmost
 pub mod Moves
 pub mod Parts
-pub mod Rooms
+pub mod Reaching
 pub mod Searches
 pub mod Slacks
 pub mod Starts

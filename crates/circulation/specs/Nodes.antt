@@ -1,4 +1,4 @@
--- The nodes as packed numbers, six to a node: potential, need, rank, parent, room, and one that is not used. The last
+-- The nodes as packed numbers, six to a node: potential, deficit, place in the order of reaching, parent, residual, and one that is not used. The last
 -- node is ground.
 use Prim.Native.Nat.{ℕ, _+_, _*_, _/_}
 use mathlib.Core.List.{List}
@@ -10,9 +10,9 @@ use Rattle.network.specs.Net.{at}
 abbrev pub node-stride : ℕ
 node-stride = 6
 
--- what is added to a need: 2^30
-abbrev pub need-zero : ℕ
-need-zero = 1073741824
+-- what is added to a deficit: 2^30
+abbrev pub deficit-zero : ℕ
+deficit-zero = 1073741824
 
 -- what is added to a potential that is answered, which is relative to ground's: 2^28
 abbrev pub potential-zero : ℕ
@@ -30,18 +30,18 @@ column k nodes = upto (length nodes / node-stride) (λ v. at nodes (node-stride 
 abbrev pub potentials : List ℕ → List ℕ
 potentials nodes = column 0 nodes
 
--- the need of a node is outflow − inflow, with need-zero added
-abbrev pub needs : List ℕ → List ℕ
-needs nodes = column 1 nodes
+-- the deficit of a node is outflow − inflow, with deficit-zero added; below that it is an excess
+abbrev pub deficits : List ℕ → List ℕ
+deficits nodes = column 1 nodes
 
--- the rank of a node in the order of reaching; 0 where it is not reached
-abbrev pub ranks : List ℕ → List ℕ
-ranks nodes = column 2 nodes
+-- the place of a node in the order of reaching, from 1 on; 0 where it is not reached
+abbrev pub orders : List ℕ → List ℕ
+orders nodes = column 2 nodes
 
 -- the arc over which a node was reached
 abbrev pub parents : List ℕ → List ℕ
 parents nodes = column 3 nodes
 
 -- what can be moved from the source to a node
-abbrev pub rooms : List ℕ → List ℕ
-rooms nodes = column 4 nodes
+abbrev pub residuals : List ℕ → List ℕ
+residuals nodes = column 4 nodes

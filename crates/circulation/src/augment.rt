@@ -1,12 +1,12 @@
-// Moving what a node needs along the arcs over which a search reached it.
+// Moving flow to a deficit, along the arcs over which a search reached an excess.
 use crate::arc::flow_of;
 use crate::arc::head_of;
 use crate::arc::set_flow;
 use crate::arc::tail_of;
-use crate::nodes::NEED;
-use crate::nodes::NEED_ZERO;
+use crate::nodes::DEFICIT;
+use crate::nodes::DEFICIT_ZERO;
 use crate::nodes::PARENT;
-use crate::nodes::ROOM;
+use crate::nodes::RESIDUAL;
 use crate::nodes::get;
 use crate::nodes::least;
 use crate::start::charge;
@@ -16,9 +16,9 @@ ghost use Rattle.circulation.specs.inside.Search.{Amount, Pushable, Push
 ghost use Rattle.circulation.specs.inside.Steps.{Augments, ReachedAt};
 ghost use Rattle.network.specs.Net.{at, net};
 ghost use Rattle.network.specs.Limits.{«most-nodes»};
-ghost use Rattle.circulation.specs.Nodes.{«need-zero», needs, potentials, rooms, size};
+ghost use Rattle.circulation.specs.Nodes.{«deficit-zero», deficits, potentials, residuals, size};
 
-// Moves as much as can be from s, which needs some, to t, which has something to spare.
+// Moves as much as can be between s, which has a deficit, and t, which has an excess.
 pub fn augment(arcs: &[u32], flows: &mut [u32], nodes: &mut [u32], s: usize, t: usize)
     requires { ⌜ ReachedAt (net (now arcs) (length (now flows))) s t (now flows) (now nodes) ⌝ }
     ensures { λ _. ⌜ Augments (net (now (arcs .entry)) (length (now (flows .entry)))) (now (flows .exit)) (now (nodes .entry)) (now (nodes .exit)) ⌝ }
@@ -30,17 +30,20 @@ pub fn augment(arcs: &[u32], flows: &mut [u32], nodes: &mut [u32], s: usize, t: 
 
 // How much can be moved to t.
 fn amount(nodes: &[u32], s: usize, t: usize) -> usize
-    requires { ⌜ (size (now nodes) ≤ most-nodes) × (t < size (now nodes)) × (at (needs (now nodes)) t < need-zero) × (0 < at (rooms (now nodes)) t) ⌝ }
-    ensures { λ d. ⌜ Amount s t d (at (needs (now (nodes .entry)))) (at (rooms (now (nodes .entry)))) ⌝ }
+    requires { ⌜ (size (now nodes) ≤ most-nodes) × (t < size (now nodes)) × (at (deficits (now nodes)) t < deficit-zero) × (0 < at (residuals (now nodes)) t) ⌝ }
+    ensures { λ d. ⌜ Amount s t d (at (deficits (now (nodes .entry)))) (at (residuals (now (nodes .entry)))) ⌝ }
 {
-    least(NEED_ZERO - get(nodes, t, NEED), get(nodes, t, ROOM))
+    least(
+        DEFICIT_ZERO - get(nodes, t, DEFICIT),
+        get(nodes, t, RESIDUAL),
+    )
 }
 
 // Walks back from t to s and moves d over each arc.
 fn walk(arcs: &[u32], flows: &mut [u32], nodes: &[u32], s: usize, t: usize, d: usize)
     requires { ⌜ ReachedAt (net (now arcs) (length (now flows))) s t (now flows) (now nodes) ⌝ }
-    requires { ⌜ Amount s t d (at (needs (now nodes))) (at (rooms (now nodes))) ⌝ }
-    ensures { λ _. ⌜ Walked (net (now (arcs .entry)) (length (now (flows .entry)))) s t d (potentials (now (nodes .entry))) (needs (now (nodes .entry))) (now (flows .entry)) (now (flows .exit)) ⌝ }
+    requires { ⌜ Amount s t d (at (deficits (now nodes))) (at (residuals (now nodes))) ⌝ }
+    ensures { λ _. ⌜ Walked (net (now (arcs .entry)) (length (now (flows .entry)))) s t d (potentials (now (nodes .entry))) (deficits (now (nodes .entry))) (now (flows .entry)) (now (flows .exit)) ⌝ }
 {
     let mut v = t;
     while v != s {

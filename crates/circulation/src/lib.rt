@@ -4,7 +4,6 @@ pub mod arc;
 mod augment;
 pub mod ends;
 pub mod finish;
-mod gap;
 pub mod input;
 pub mod layout;
 pub mod limits;
@@ -12,6 +11,7 @@ pub mod nodes;
 mod raise;
 mod search;
 pub mod start;
+mod step;
 
 use crate::augment::augment;
 use crate::finish::finish;
@@ -22,7 +22,7 @@ use crate::nodes::count_of;
 use crate::search::flood;
 use crate::search::search;
 use crate::search::source;
-use crate::start::count_need;
+use crate::start::count_deficits;
 use crate::start::saturate;
 ghost use lib.ListN.{length};
 ghost use Rattle.circulation.specs.inside.Finish.{Zeroed};
@@ -78,13 +78,13 @@ fn whole(arcs: &[u32], flows: &mut [u32], nodes: &mut [u32])
     finish(nodes);
 }
 
-// The method: moves what is needed until nothing is.
+// The method: searches and augments until no node has a deficit.
 fn run(arcs: &[u32], flows: &mut [u32], nodes: &mut [u32])
     requires { ⌜ Valid (net (now arcs) (length (now flows))) (size (now nodes)) (potentials (now nodes)) ⌝ }
     ensures { λ _. ⌜ Ends (net (now (arcs .entry)) (length (now (flows .entry)))) (size (now (nodes .entry))) (now (flows .exit)) (now (nodes .exit)) ⌝ }
 {
     saturate(arcs, flows, nodes);
-    count_need(arcs, flows, nodes);
+    count_deficits(arcs, flows, nodes);
     loop {
         let Found::At(s) = source(nodes) else {
             return;

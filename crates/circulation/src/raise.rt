@@ -1,6 +1,6 @@
 // Raising the reached nodes.
+use crate::nodes::ORDER;
 use crate::nodes::POTENTIAL;
-use crate::nodes::RANK;
 use crate::nodes::count_of;
 use crate::nodes::get;
 use crate::nodes::put;
@@ -11,15 +11,15 @@ ghost use Rattle.circulation.specs.inside.Slackness.{Small};
 ghost use Rattle.network.specs.Net.{at};
 ghost use Rattle.network.specs.Limits.{«most-nodes»};
 ghost use Rattle.circulation.specs.Limits.{«potential-limit»};
-ghost use Rattle.circulation.specs.Nodes.{potentials, ranks, size};
+ghost use Rattle.circulation.specs.Nodes.{potentials, orders, size};
 
 // Raises node v by d where it is reached.
 fn raise(nodes: &mut [u32], v: usize, d: usize)
     requires { ⌜ (v < size (now nodes)) × (v < most-nodes) ⌝ }
-    requires { ⌜ (0 < at (ranks (now nodes)) v → at (potentials (now nodes)) v + d ≤ potential-limit) ⌝ }
-    ensures { λ _. ⌜ Stored 0 v (lift (at (ranks (now (nodes .entry))) v) (at (potentials (now (nodes .entry))) v) d) (now (nodes .entry)) (now (nodes .exit)) ⌝ }
+    requires { ⌜ (0 < at (orders (now nodes)) v → at (potentials (now nodes)) v + d ≤ potential-limit) ⌝ }
+    ensures { λ _. ⌜ Stored 0 v (lift (at (orders (now (nodes .entry))) v) (at (potentials (now (nodes .entry))) v) d) (now (nodes .entry)) (now (nodes .exit)) ⌝ }
 {
-    if get(nodes, v, RANK) == 0 {
+    if get(nodes, v, ORDER) == 0 {
         return;
     }
     let p = get(nodes, v, POTENTIAL);
@@ -30,8 +30,8 @@ fn raise(nodes: &mut [u32], v: usize, d: usize)
 fn raise_all(nodes: &mut [u32], d: usize)
     requires { ⌜ (size (now nodes) ≤ most-nodes) ⌝ }
     requires { ⌜ Small (at (potentials (now nodes))) ⌝ }
-    requires { ⌜ ((v : ℕ) → v < size (now nodes) → 0 < at (ranks (now nodes)) v → at (potentials (now nodes)) v + d ≤ potential-limit) ⌝ }
-    ensures { λ _. ⌜ Moved (size (now (nodes .entry))) d (at (ranks (now (nodes .entry)))) (at (potentials (now (nodes .entry)))) (at (potentials (now (nodes .exit)))) ⌝ }
+    requires { ⌜ ((v : ℕ) → v < size (now nodes) → 0 < at (orders (now nodes)) v → at (potentials (now nodes)) v + d ≤ potential-limit) ⌝ }
+    ensures { λ _. ⌜ Moved (size (now (nodes .entry))) d (at (orders (now (nodes .entry)))) (at (potentials (now (nodes .entry)))) (at (potentials (now (nodes .exit)))) ⌝ }
     ensures { λ _. ⌜ Apart 0 (now (nodes .entry)) (now (nodes .exit)) ⌝ }
 {
     let n = count_of(nodes);
@@ -46,8 +46,8 @@ fn raise_all(nodes: &mut [u32], d: usize)
 pub fn raise_reached(nodes: &mut [u32], d: usize)
     requires { ⌜ (size (now nodes) ≤ most-nodes) ⌝ }
     requires { ⌜ Small (at (potentials (now nodes))) ⌝ }
-    requires { ⌜ ((v : ℕ) → v < size (now nodes) → 0 < at (ranks (now nodes)) v → at (potentials (now nodes)) v + d ≤ potential-limit) ⌝ }
-    ensures { λ _. ⌜ Moved (size (now (nodes .entry))) d (at (ranks (now (nodes .entry)))) (at (potentials (now (nodes .entry)))) (at (potentials (now (nodes .exit)))) ⌝ }
+    requires { ⌜ ((v : ℕ) → v < size (now nodes) → 0 < at (orders (now nodes)) v → at (potentials (now nodes)) v + d ≤ potential-limit) ⌝ }
+    ensures { λ _. ⌜ Moved (size (now (nodes .entry))) d (at (orders (now (nodes .entry)))) (at (potentials (now (nodes .entry)))) (at (potentials (now (nodes .exit)))) ⌝ }
     ensures { λ _. ⌜ Apart 0 (now (nodes .entry)) (now (nodes .exit)) ⌝ }
 {
     if d == 0 {

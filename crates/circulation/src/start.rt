@@ -1,4 +1,4 @@
-// The flows to start with, and what each node needs then.
+// The flows to start with, and the deficits of the nodes then.
 use crate::arc::flow_of;
 use crate::arc::head_of;
 use crate::arc::high_of;
@@ -8,8 +8,8 @@ use crate::arc::tail_of;
 use crate::ends::asks_at;
 use crate::ends::stands_at;
 use crate::limits::NO_FLOW;
-use crate::nodes::NEED;
-use crate::nodes::NEED_ZERO;
+use crate::nodes::DEFICIT;
+use crate::nodes::DEFICIT_ZERO;
 use crate::nodes::fill;
 use crate::nodes::get;
 use crate::nodes::put;
@@ -23,7 +23,7 @@ ghost use Rattle.circulation.specs.Input.{Valid};
 ghost use Rattle.network.specs.Net.{asks, at, high, low, net, stands};
 ghost use Rattle.network.specs.Packed.{«word-limit»};
 ghost use Rattle.network.specs.Limits.{«most-nodes»};
-ghost use Rattle.circulation.specs.Nodes.{«need-zero», needs, potentials, size};
+ghost use Rattle.circulation.specs.Nodes.{«deficit-zero», deficits, potentials, size};
 
 // The flows to start with.
 pub fn saturate(arcs: &[u32], flows: &mut [u32], nodes: &[u32])
@@ -66,18 +66,18 @@ fn filled(stands: usize, asks: usize, low: usize, high: usize) -> usize
     NO_FLOW
 }
 
-// The need of each node.
-pub fn count_need(arcs: &[u32], flows: &[u32], nodes: &mut [u32])
+// The deficit of each node.
+pub fn count_deficits(arcs: &[u32], flows: &[u32], nodes: &mut [u32])
     requires { ⌜ WellFormed (net (now arcs) (length (now flows))) (size (now nodes)) ⌝ }
     requires { ⌜ Countable (length (now flows)) (at (now flows)) ⌝ }
     ensures { λ _. ⌜ ((v : ℕ) → v < size (now (nodes .entry))
-        → at (needs (now (nodes .exit))) v
+        → at (deficits (now (nodes .exit))) v
         + inflow (net (now (arcs .entry)) (length (now (flows .entry)))) (length (now (flows .entry))) (at (now (flows .entry))) v
-        ≡ need-zero
+        ≡ deficit-zero
         + outflow (net (now (arcs .entry)) (length (now (flows .entry)))) (length (now (flows .entry))) (at (now (flows .entry))) v) ⌝ }
     ensures { λ _. ⌜ Apart 1 (now (nodes .entry)) (now (nodes .exit)) ⌝ }
 {
-    fill(nodes, NEED, NEED_ZERO);
+    fill(nodes, DEFICIT, DEFICIT_ZERO);
     let mut i = 0;
     while i < flows.len() {
         let t = tail_of(arcs, i);
@@ -91,12 +91,12 @@ pub fn count_need(arcs: &[u32], flows: &[u32], nodes: &mut [u32])
 // Counts a units that flow out of t and into h.
 pub fn charge(nodes: &mut [u32], t: usize, h: usize, a: usize)
     requires { ⌜ (h < size (now nodes)) × (t < size (now nodes)) × (size (now nodes) ≤ most-nodes) ⌝ }
-    requires { ⌜ (at (needs (now nodes)) t + a < word-limit) × (a ≤ at (needs (now nodes)) h) ⌝ }
-    ensures { λ _. ⌜ ((v : ℕ) → at (needs (now (nodes .exit))) v + pick h v a ≡ at (needs (now (nodes .entry))) v + pick t v a) ⌝ }
+    requires { ⌜ (at (deficits (now nodes)) t + a < word-limit) × (a ≤ at (deficits (now nodes)) h) ⌝ }
+    ensures { λ _. ⌜ ((v : ℕ) → at (deficits (now (nodes .exit))) v + pick h v a ≡ at (deficits (now (nodes .entry))) v + pick t v a) ⌝ }
     ensures { λ _. ⌜ Apart 1 (now (nodes .entry)) (now (nodes .exit)) ⌝ }
 {
-    let more = get(nodes, t, NEED) + a;
-    put(nodes, t, NEED, more);
-    let less = get(nodes, h, NEED) - a;
-    put(nodes, h, NEED, less);
+    let more = get(nodes, t, DEFICIT) + a;
+    put(nodes, t, DEFICIT, more);
+    let less = get(nodes, h, DEFICIT) - a;
+    put(nodes, h, DEFICIT, less);
 }

@@ -1,4 +1,4 @@
-// Moving what a node lacks along the arcs over which a search reached another that has it to spare.
+// Moving flow to a deficit, along the arcs over which a search reached an excess.
 use crate::layout::DEFICIT;
 use crate::layout::DEFICIT_ZERO;
 use crate::layout::PARENT;

@@ -17,7 +17,7 @@ use crate::start::begin;
 use circulation::layout::NODE_STRIDE;
 
 // The guess, from the potentials in the nodes. It leaves the potential, the place in the order (from 1 on, ground first) and twice
-// the arc by which a node is held, where the circulation has potential, rank and parent.
+// the arc by which a node is held, where the circulation has potential, order and parent.
 pub fn guess(arcs: &[u32], flows: &mut [u32], nodes: &mut [u32], room: &mut [u32]) {
     prepare(arcs, flows, nodes, room);
     serve_all(arcs, flows, nodes, room);

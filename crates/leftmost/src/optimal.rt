@@ -12,20 +12,20 @@ use circulation::ends::stands_at;
 use circulation::input::low_start;
 use circulation::limits::FLOW_LEAST;
 use circulation::limits::FLOW_MOST;
-use circulation::nodes::NEED;
-use circulation::nodes::NEED_ZERO;
+use circulation::nodes::DEFICIT;
+use circulation::nodes::DEFICIT_ZERO;
+use circulation::nodes::ORDER;
 use circulation::nodes::PARENT;
-use circulation::nodes::RANK;
 use circulation::nodes::count_of;
 use circulation::nodes::get;
-use circulation::start::count_need;
+use circulation::start::count_deficits;
 ghost use mathlib.Core.Path.{_≡_};
 ghost use Prim.Native.Nat.{_≤_, _<_};
 ghost use lib.ListN.{length};
 ghost use Rattle.network.specs.Net.{asks, at, net, stands};
 ghost use Rattle.network.specs.Limits.{«most-nodes»};
 ghost use Rattle.network.specs.WellFormed.{WellFormed};
-ghost use Rattle.circulation.specs.Nodes.{potentials, ranks, size};
+ghost use Rattle.circulation.specs.Nodes.{potentials, orders, size};
 ghost use Rattle.circulation.specs.inside.Slackness.{Small};
 ghost use Rattle.circulation.specs.inside.Optimal.{Support, Supports};
 ghost use Rattle.leftmost.specs.inside.Shown.{Shown};
@@ -34,7 +34,7 @@ ghost use Rattle.leftmost.specs.inside.Optimal.{AllFit, AllSupported, Fi
 // The parent of a node is an end of an arc: so many to an arc.
 const ARC_ENDS: usize = 2;
 
-// Whether the flows fit the potentials and balance, and every node but ground is supported. The needs of the nodes are counted anew.
+// Whether the flows fit the potentials and balance, and every node but ground is supported. The deficits of the nodes are counted anew.
 pub fn optimal(arcs: &[u32], flows: &[u32], nodes: &mut [u32]) -> bool
     requires { ⌜ WellFormed (net (now arcs) (length (now flows))) (size (now nodes)) ⌝ }
     ensures { λ r. ⌜ Shown (Passes (net (now (arcs .entry)) (length (now (flows .entry)))) (size (now (nodes .entry))) (now (flows .entry)) (now (nodes .exit))) r ⌝ }
@@ -48,7 +48,7 @@ pub fn optimal(arcs: &[u32], flows: &[u32], nodes: &mut [u32]) -> bool
     if !all_supported(arcs, flows, nodes) {
         return false;
     }
-    count_need(arcs, flows, nodes);
+    count_deficits(arcs, flows, nodes);
     level(nodes)
 }
 
@@ -115,7 +115,7 @@ fn fit(stands: usize, asks: usize, x: usize, low: usize, high: usize) -> bool
 fn all_supported(arcs: &[u32], flows: &[u32], nodes: &[u32]) -> bool
     requires { ⌜ WellFormed (net (now arcs) (length (now flows))) (size (now nodes)) ⌝ }
     requires { ⌜ Small (at (potentials (now nodes))) ⌝ }
-    ensures { λ r. ⌜ Shown (AllSupported (net (now (arcs .entry)) (length (now (flows .entry)))) (size (now (nodes .entry))) (at (potentials (now (nodes .entry)))) (at (now (flows .entry))) (at (ranks (now (nodes .entry))))) r ⌝ }
+    ensures { λ r. ⌜ Shown (AllSupported (net (now (arcs .entry)) (length (now (flows .entry)))) (size (now (nodes .entry))) (at (potentials (now (nodes .entry)))) (at (now (flows .entry))) (at (orders (now (nodes .entry))))) r ⌝ }
 {
     let ground = count_of(nodes) - 1;
     let mut v = 0;
@@ -133,7 +133,7 @@ fn supported(arcs: &[u32], flows: &[u32], nodes: &[u32], v: usize) -> bool
     requires { ⌜ WellFormed (net (now arcs) (length (now flows))) (size (now nodes)) ⌝ }
     requires { ⌜ Small (at (potentials (now nodes))) ⌝ }
     requires { ⌜ v < size (now nodes) ⌝ }
-    ensures { λ r. ⌜ Shown (Support (net (now (arcs .entry)) (length (now (flows .entry)))) (at (potentials (now (nodes .entry)))) (at (now (flows .entry))) (at (ranks (now (nodes .entry)))) v) r ⌝ }
+    ensures { λ r. ⌜ Shown (Support (net (now (arcs .entry)) (length (now (flows .entry)))) (at (potentials (now (nodes .entry)))) (at (now (flows .entry))) (at (orders (now (nodes .entry)))) v) r ⌝ }
 {
     let i = get(nodes, v, PARENT) / ARC_ENDS;
     if i >= flows.len() {
@@ -147,16 +147,16 @@ fn supports(arcs: &[u32], flows: &[u32], nodes: &[u32], v: usize, i: usize) -> b
     requires { ⌜ WellFormed (net (now arcs) (length (now flows))) (size (now nodes)) ⌝ }
     requires { ⌜ Small (at (potentials (now nodes))) ⌝ }
     requires { ⌜ (v < size (now nodes)) × (i < length (now flows)) ⌝ }
-    ensures { λ r. ⌜ Shown (Supports (net (now (arcs .entry)) (length (now (flows .entry)))) (at (potentials (now (nodes .entry)))) (at (now (flows .entry))) (at (ranks (now (nodes .entry)))) v i) r ⌝ }
+    ensures { λ r. ⌜ Shown (Supports (net (now (arcs .entry)) (length (now (flows .entry)))) (at (potentials (now (nodes .entry)))) (at (now (flows .entry))) (at (orders (now (nodes .entry)))) v i) r ⌝ }
 {
     if asks_at(arcs, nodes, i, flows.len()) != stands_at(arcs, nodes, i, flows.len()) {
         return false;
     }
     let x = flow_of(flows, i);
-    let place = get(nodes, v, RANK);
+    let place = get(nodes, v, ORDER);
     if tail_of(arcs, i) == v {
         return both_less(
-            at_head(arcs, nodes, i, RANK, flows.len()),
+            at_head(arcs, nodes, i, ORDER, flows.len()),
             place,
             x,
             high_of(arcs, i),
@@ -164,7 +164,7 @@ fn supports(arcs: &[u32], flows: &[u32], nodes: &[u32], v: usize, i: usize) -> b
     }
     if head_of(arcs, i) == v {
         return both_less(
-            at_tail(arcs, nodes, i, RANK, flows.len()),
+            at_tail(arcs, nodes, i, ORDER, flows.len()),
             place,
             low_of(arcs, i),
             x,
@@ -183,7 +183,7 @@ fn both_less(a: usize, b: usize, less: usize, more: usize) -> bool
     less < more
 }
 
-// Whether no node needs anything, or has something to spare.
+// Whether no node has a deficit or an excess.
 fn level(nodes: &[u32]) -> bool
     requires { ⌜ size (now nodes) ≤ most-nodes ⌝ }
     ensures { λ r. ⌜ Shown (Level (now (nodes .entry))) r ⌝ }
@@ -191,7 +191,7 @@ fn level(nodes: &[u32]) -> bool
     let n = count_of(nodes);
     let mut v = 0;
     while v < n {
-        if get(nodes, v, NEED) != NEED_ZERO {
+        if get(nodes, v, DEFICIT) != DEFICIT_ZERO {
             return false;
         }
         v += 1;

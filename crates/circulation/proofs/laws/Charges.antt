@@ -1,8 +1,8 @@
--- A flow that is counted at the two ends of its arc: one need gets more, the other less.
+-- A flow that is counted at the two ends of its arc: one deficit grows, the other shrinks.
 use Rattle.network.specs.laws.SumsTo.{at-set}
 use Rattle.network.specs.Net.{at}
 use Rattle.circulation.specs.inside.Slackness.{pick}
-use Rattle.circulation.specs.Nodes.{needs, node-stride}
+use Rattle.circulation.specs.Nodes.{deficits, node-stride}
 use Rattle.circulation.specs.inside.Stores.{Stored, Apart}
 use mathlib.Core.Path.{_≡_, sym, ap, _∙_}
 use mathlib.Core.List.{List}
@@ -75,22 +75,22 @@ charged e h t a h-in t-in enough v = go (ℕ-discrete v t) (ℕ-discrete v h)
 
 -- the two stores of a charge
 module _ (nodes one new : List ℕ) (t h a more less : ℕ) (t-in : t < length nodes / node-stride) (h-in : h < length nodes / node-stride)
-    (enough : a ≤ at (needs nodes) h)
-    (more-is : more ≡ at (needs nodes) t + a) (first : Stored 1 t more nodes one) where
+    (enough : a ≤ at (deficits nodes) h)
+    (more-is : more ≡ at (deficits nodes) t + a) (first : Stored 1 t more nodes one) where
   -- after the first store the second has enough
-  pub charge-enough : (a ≤ at (needs one) h) × ((top : ℕ) → more < top → at (needs nodes) h < top → at (needs one) h < top)
+  pub charge-enough : (a ≤ at (deficits one) h) × ((top : ℕ) → more < top → at (deficits nodes) h < top → at (deficits one) h < top)
   charge-enough = (
-    rw (first .same, more-is) (stays-high (needs nodes) t h a (omega (arith, column-length 1 nodes)) enough),
+    rw (first .same, more-is) (stays-high (deficits nodes) t h a (omega (arith, column-length 1 nodes)) enough),
     λ top m e. ⊎-elim (λ c. omega (arith, c .1, ap (λ (l : List ℕ). at l h) (first .same)))
         (λ c. omega (arith, c .1, ap (λ (l : List ℕ). at l h) (first .same)))
-        (at-set (needs nodes) t more h (omega (arith, column-length 1 nodes))),
+        (at-set (deficits nodes) t more h (omega (arith, column-length 1 nodes))),
   )
 
   -- both stores
-  pub charge-both : less ≡ at (needs one) h - a → Stored 1 h less one new
-      → ((v : ℕ) → at (needs new) v + pick h v a ≡ at (needs nodes) v + pick t v a) × Apart 1 nodes new
+  pub charge-both : less ≡ at (deficits one) h - a → Stored 1 h less one new
+      → ((v : ℕ) → at (deficits new) v + pick h v a ≡ at (deficits nodes) v + pick t v a) × Apart 1 nodes new
   charge-both less-is second = (
     λ v. rw (second .same, less-is, first .same, more-is)
-        (charged (needs nodes) t h a (omega (arith, column-length 1 nodes)) (omega (arith, column-length 1 nodes)) enough v),
+        (charged (deficits nodes) t h a (omega (arith, column-length 1 nodes)) (omega (arith, column-length 1 nodes)) enough v),
     apart-next (apart-next (apart-start 1 nodes) first) second,
   )

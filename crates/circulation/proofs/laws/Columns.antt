@@ -1,7 +1,7 @@
 -- Packed numbers as columns: a store changes one place of one column. By extensionality of lists.
 use Rattle.network.specs.Net.{at}
 use Rattle.circulation.specs.laws.Columns.{column-length, column-at, column-past}
-use Rattle.circulation.specs.Nodes.{column, ranks, rooms, node-stride}
+use Rattle.circulation.specs.Nodes.{column, orders, residuals, node-stride}
 use Rattle.circulation.specs.inside.Stores.{Stored, Apart, Reaches, Begun}
 use mathlib.Core.Path.{_≡_, refl, sym, ap, _∙_}
 use mathlib.Core.List.{List}
@@ -102,48 +102,48 @@ fill-zeros {k} {old} {new} f a u = go (decLt u (length old / node-stride))
     go (no out) = column-past k new u (omega (arith, a .length-same))
 
 -- three stores at a node
-pub reaches : {v rank parent room : ℕ} {old one two new : List ℕ} → Stored 2 v rank old one → Stored 3 v parent one two
-    → Stored 4 v room two new → Reaches v rank parent room old new
-reaches {v} {rank} {parent} {room} a b c = record {
+pub reaches : {v order parent residual : ℕ} {old one two new : List ℕ} → Stored 2 v order old one → Stored 3 v parent one two
+    → Stored 4 v residual two new → Reaches v order parent residual old new
+reaches {v} {order} {parent} {residual} a b c = record {
   length-same = c .length-same ∙ (b .length-same ∙ a .length-same);
   potentials-same =
       c .others 0 (omega arith) (λ e. omega arith)
       ∙ (b .others 0 (omega arith) (λ e. omega arith) ∙ a .others 0 (omega arith) (λ e. omega arith));
-  needs-same =
+  deficits-same =
       c .others 1 (omega arith) (λ e. omega arith)
       ∙ (b .others 1 (omega arith) (λ e. omega arith) ∙ a .others 1 (omega arith) (λ e. omega arith));
-  ranks-set = c .others 2 (omega arith) (λ e. omega arith) ∙ (b .others 2 (omega arith) (λ e. omega arith) ∙ a .same);
+  orders-set = c .others 2 (omega arith) (λ e. omega arith) ∙ (b .others 2 (omega arith) (λ e. omega arith) ∙ a .same);
   parents-set =
       c .others 3 (omega arith) (λ e. omega arith)
       ∙ (b .same ∙ ap (λ (l : List ℕ). set l v parent) (a .others 3 (omega arith) (λ e. omega arith)));
-  rooms-set =
+  residuals-set =
       c .same
-      ∙ ap (λ (l : List ℕ). set l v room)
+      ∙ ap (λ (l : List ℕ). set l v residual)
       (b .others 4 (omega arith) (λ e. omega arith) ∙ a .others 4 (omega arith) (λ e. omega arith));
 }
 
--- ranks cleared, and one node reached
-pub begun : {s room : ℕ} {old one two new : List ℕ} → s < length old / node-stride → ((v : ℕ) → at (ranks one) v ≡ 0)
-    → Apart 2 old one → Stored 2 s 1 one two → Stored 4 s room two new → Begun s room old new
-begun {s} {room} {old} {one} {two} {new} s-in zeros a b c = record {
+-- the order cleared, and one node reached
+pub begun : {s residual : ℕ} {old one two new : List ℕ} → s < length old / node-stride → ((v : ℕ) → at (orders one) v ≡ 0)
+    → Apart 2 old one → Stored 2 s 1 one two → Stored 4 s residual two new → Begun s residual old new
+begun {s} {residual} {old} {one} {two} {new} s-in zeros a b c = record {
   length-same = c .length-same ∙ (b .length-same ∙ a .length-same);
   potentials-same =
       c .others 0 (omega arith) (λ e. omega arith)
       ∙ (b .others 0 (omega arith) (λ e. omega arith) ∙ a .others 0 (omega arith) (λ e. omega arith));
-  needs-same =
+  deficits-same =
       c .others 1 (omega arith) (λ e. omega arith)
       ∙ (b .others 1 (omega arith) (λ e. omega arith) ∙ a .others 1 (omega arith) (λ e. omega arith));
   root =
-      ap (λ (l : List ℕ). at l s) rank-set
-      ∙ getD-set-same (ranks one) s 1 0 (omega (arith, column-length 2 one, a .length-same));
-  alone = λ v ne. ap (λ (l : List ℕ). at l v) rank-set ∙ (getD-set-other (ranks one) s v 1 0 ne ∙ zeros v);
-  root-room =
+      ap (λ (l : List ℕ). at l s) order-set
+      ∙ getD-set-same (orders one) s 1 0 (omega (arith, column-length 2 one, a .length-same));
+  alone = λ v ne. ap (λ (l : List ℕ). at l v) order-set ∙ (getD-set-other (orders one) s v 1 0 ne ∙ zeros v);
+  root-residual =
       ap (λ (l : List ℕ). at l s) (c .same)
-      ∙ getD-set-same (rooms two) s room 0 (omega (arith, column-length 4 two, b .length-same, a .length-same));
+      ∙ getD-set-same (residuals two) s residual 0 (omega (arith, column-length 4 two, b .length-same, a .length-same));
 }
   where
-    rank-set : ranks new ≡ set (ranks one) s 1
-    rank-set = c .others 2 (omega arith) (λ e. omega arith) ∙ b .same
+    order-set : orders new ≡ set (orders one) s 1
+    order-set = c .others 2 (omega arith) (λ e. omega arith) ∙ b .same
 
 -- one after the other
 pub apart-join : {k : ℕ} {old mid new : List ℕ} → Apart k old mid → Apart k mid new → Apart k old new

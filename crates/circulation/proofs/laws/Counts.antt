@@ -1,9 +1,9 @@
--- The needs at the start: the flows of arc after arc are counted at their ends, and every need in between is near zero.
+-- The deficits at the start: the flows of arc after arc are counted at their ends, and every deficit in between is near zero.
 use Rattle.network.specs.laws.SumsTo.{sum-to-le, sum-to-add, sum-to-bound}
 use Rattle.network.specs.Net.{at, Net, arcs, tail, head}
 use Rattle.network.specs.Sums.{sum-to}
 use Rattle.circulation.specs.inside.Slackness.{pick, flow, inflow, outflow, Countable}
-use Rattle.circulation.specs.Nodes.{need-zero}
+use Rattle.circulation.specs.Nodes.{deficit-zero}
 use mathlib.Core.Path.{_≡_, refl, subst, _∙_}
 use mathlib.Core.List.{List}
 use Prim.Native.Nat.{ℕ, _+_, _-_, _≤_, _<_}
@@ -48,11 +48,11 @@ flow-near m d ends x y v near = omega (
 pub record Counting (N : Net) (n : ℕ) (x e : List ℕ) (i : ℕ) : Type 0 where
   pub i-in : i ≤ arcs N
   pub size : length e ≡ n
-  pub sofar : (v : ℕ) → v < n → at e v + inflow N i (at x) v ≡ need-zero + outflow N i (at x) v
+  pub sofar : (v : ℕ) → v < n → at e v + inflow N i (at x) v ≡ deficit-zero + outflow N i (at x) v
 
 module _ {N : Net} {n : ℕ} {x : List ℕ} where
   -- no arc is counted yet
-  pub count-start : (e : List ℕ) → length e ≡ n → ((v : ℕ) → v < n → at e v ≡ need-zero) → Counting N n x e 0
+  pub count-start : (e : List ℕ) → length e ≡ n → ((v : ℕ) → v < n → at e v ≡ deficit-zero) → Counting N n x e 0
   count-start e size level = record {
     i-in = omega arith;
     size = size;
@@ -68,7 +68,7 @@ module _ {N : Net} {n : ℕ} {x : List ℕ} where
 
   module _ {e : List ℕ} {i : ℕ} (c : Counting N n x e i) (l : i < arcs N) (few : arcs N ≤ most-arcs)
       (small : Countable (arcs N) (at x)) where
-    -- a need in between is at most 2^28 away from 2^30
+    -- a deficit in between is at most 2^28 away from 2^30
     pub count-range : (v : ℕ) → v < n → (805306368 ≤ at e v) × (at e v ≤ 1342177280)
     count-range v v-in =
         let size : ℕ = flow-most - flow-zero in
@@ -104,7 +104,7 @@ module _ {N : Net} {n : ℕ} {x : List ℕ} where
 
   -- all are
   pub count-all : {e : List ℕ} {i : ℕ} → Counting N n x e i → arcs N ≤ i → (v : ℕ) → v < n
-      → at e v + inflow N (arcs N) (at x) v ≡ need-zero + outflow N (arcs N) (at x) v
+      → at e v + inflow N (arcs N) (at x) v ≡ deficit-zero + outflow N (arcs N) (at x) v
   count-all {e} {i} c past v v-in =
       let same : i ≡ arcs N = omega (arith, c .i-in) in
-      subst (λ (k : ℕ). at e v + inflow N k (at x) v ≡ need-zero + outflow N k (at x) v) same (c .sofar v v-in)
+      subst (λ (k : ℕ). at e v + inflow N k (at x) v ≡ deficit-zero + outflow N k (at x) v) same (c .sofar v v-in)

@@ -1,12 +1,12 @@
 -- A cut: where no arc crosses from the reached nodes, they bring forth no more than they take in. So a search that
--- reaches no node with something to spare finds a crossing arc.
+-- reaches no node with an excess finds a crossing arc.
 use Rattle.network.specs.Sums.{sum-to}
 use Rattle.network.specs.laws.SumsTo.{sum-to-le, sum-to-lt, sum-to-eq, sum-to-change, sum-to-zero, sum-to-add, sum-to-swap}
 use Rattle.network.specs.Net.{Net, arcs, tail, head, low, high, asks, stands}
 use Rattle.circulation.specs.inside.Slackness.{pick, flow, inflow, outflow, Slack}
 use Rattle.network.specs.WellFormed.{WellFormed}
 use Rattle.circulation.specs.Input.{Limited}
-use Rattle.circulation.specs.inside.Search.{Need, Crosses}
+use Rattle.circulation.specs.inside.Search.{Deficits, Crosses}
 use mathlib.Core.Path.{_≡_, refl, sym, ap, _∙_}
 use mathlib.Core.Logic.{inl, inr}
 use mathlib.Core.Bool.{cond}
@@ -17,9 +17,9 @@ use borrow.Author.Tests.{eq-eqb, ne-eqb}
 use lib.Dec.{eqb}
 use Rattle.circulation.specs.laws.Picks.{pick-yes, pick-no}
 use Rattle.network.specs.Packed.{flow-zero}
-use Rattle.circulation.specs.Nodes.{need-zero}
+use Rattle.circulation.specs.Nodes.{deficit-zero}
 
--- a where the rank o is not 0, else 0
+-- a where the place o in the order is not 0, else 0
 keep : ℕ → ℕ → ℕ
 keep o a = cond (eqb o 0) 0 a
 
@@ -77,7 +77,7 @@ keep-add o a b = go (ℕ-discrete o 0)
     go (yes e) = omega (arith, keep-out o (a + b) e, keep-out o a e, keep-out o b e)
     go (no ne) = omega (arith, keep-in o (a + b) (omega arith), keep-in o a (omega arith), keep-in o b (omega arith))
 
-module _ (N : Net) (n : ℕ) (p x order e : ℕ → ℕ) (wf : WellFormed N n) (limited : Limited N) (slack : Slack N p x) (need : Need N n x e)
+module _ (N : Net) (n : ℕ) (p x order e : ℕ → ℕ) (wf : WellFormed N n) (limited : Limited N) (slack : Slack N p x) (deficits : Deficits N n x e)
     (none : (i : ℕ) → i < arcs N → Crosses N p x order i → ⊥) where
   -- no arc that ends in the set carries flow out of it
   crossing : (i : ℕ) → i < arcs N
@@ -89,7 +89,7 @@ module _ (N : Net) (n : ℕ) (p x order e : ℕ → ℕ) (wf : WellFormed N n) (
         where
           try : Dec (asks N p i < stands N p i) → Dec (x i < high N i) → flow-zero ≤ x i
           try (yes more) b = omega (arith, slack .right i l more, limited .each i l .high-in .bottom)
-          try (no le) (yes room) = absurd (none i l (inl (record { from = from; to = to; slack = omega arith; room = room })))
+          try (no le) (yes residual) = absurd (none i l (inl (record { from = from; to = to; slack = omega arith; residual = residual })))
           try (no le) (no all) = omega (arith, limited .each i l .high-in .bottom)
 
       empty : 0 < order (tail N i) → order (head N i) ≡ 0 → x i ≤ flow-zero
@@ -97,7 +97,7 @@ module _ (N : Net) (n : ℕ) (p x order e : ℕ → ℕ) (wf : WellFormed N n) (
         where
           try : Dec (stands N p i < asks N p i) → Dec (low N i < x i) → x i ≤ flow-zero
           try (yes less) b = omega (arith, slack .left i l less, limited .each i l .low-in .top)
-          try (no le) (yes room) = absurd (none i l (inr (record { from = from; to = to; slack = omega arith; room = room })))
+          try (no le) (yes residual) = absurd (none i l (inr (record { from = from; to = to; slack = omega arith; residual = residual })))
           try (no le) (no all) = omega (arith, limited .each i l .low-in .top)
 
       go : Dec (order (tail N i) ≡ 0) → Dec (order (head N i) ≡ 0)
@@ -144,13 +144,13 @@ module _ (N : Net) (n : ℕ) (p x order e : ℕ → ℕ) (wf : WellFormed N n) (
     sum-to-add (arcs N) (λ i. keep (order (head N i)) (x i)) (λ i. keep (order (tail N i)) flow-zero),
   )
 
-  -- a node that needs something, where no reached node has anything to spare: impossible
-  pub no-need : ((v : ℕ) → v < n → 0 < order v → need-zero ≤ e v) → (s : ℕ) → s < n → 0 < order s → need-zero < e s → ⊥
-  no-need full s s-in reached more = omega (
+  -- a node with a deficit, where no reached node has an excess: impossible
+  pub no-deficit : ((v : ℕ) → v < n → 0 < order v → deficit-zero ≤ e v) → (s : ℕ) → s < n → 0 < order s → deficit-zero < e s → ⊥
+  no-deficit full s s-in reached more = omega (
     arith,
     kept-out,
     sum-to-lt n (λ v. keep (order v) (inflow N (arcs N) x v)) (λ v. keep (order v) (outflow N (arcs N) x v)) (λ v l. one v l (ℕ-discrete (order v) 0)) s s-in
-        (omega (arith, keep-in (order s) (inflow N (arcs N) x s) reached, keep-in (order s) (outflow N (arcs N) x s) reached, need .need s s-in)),
+        (omega (arith, keep-in (order s) (inflow N (arcs N) x s) reached, keep-in (order s) (outflow N (arcs N) x s) reached, deficits .each s s-in)),
   )
     where
       one : (v : ℕ) → v < n → Dec (order v ≡ 0) → keep (order v) (inflow N (arcs N) x v) ≤ keep (order v) (outflow N (arcs N) x v)
@@ -160,6 +160,6 @@ module _ (N : Net) (n : ℕ) (p x order e : ℕ → ℕ) (wf : WellFormed N n) (
             arith,
             keep-in (order v) (inflow N (arcs N) x v) (omega arith),
             keep-in (order v) (outflow N (arcs N) x v) (omega arith),
-            need .need v l,
+            deficits .each v l,
             full v l (omega arith),
           )

@@ -33,7 +33,7 @@ module _ (N : Net) (n s : ℕ) (p x order : ℕ → ℕ) (slack : Slack N p x) (
           from = ⊎-elim (λ c. omega (arith, ap order c)) (λ c. before (head N (h .arc)) c) (h .by .to);
           to = ap order (h .by .from) ∙ e;
           slack = met .not-right (h .arc) (h .arc-in) (h .by .hard);
-          room = omega (arith, h .by .hard, slack .not-full (h .arc) (h .arc-in) (h .by .hard));
+          residual = omega (arith, h .by .hard, slack .not-full (h .arc) (h .arc-in) (h .by .hard));
         })))
       ]
 
@@ -56,7 +56,7 @@ slack-feasible {N} {p} {x} s = record {
     left i l hard (yes less) = absurd (omega (arith, s .left i l less, s .not-empty i l hard))
     left i l hard (no le) = omega arith
 
-module _ {N : Net} {s count : ℕ} {p x order via room : List ℕ} (g : Grown N s count p x order via room) where
+module _ {N : Net} {s count : ℕ} {p x order parent residual : List ℕ} (g : Grown N s count p x order parent residual) where
   -- while some node is not reached, some arc crosses
   pub flood-crosses : s ≡ length p - 1 → Rooted N (length p) → count < length p → Crossing N (at p) (at x) (at order)
   flood-crosses last rooted few none = omega (

@@ -18,17 +18,17 @@ use Rattle.circulation.proofs.laws.Slacks.{lift-slack}
 use Rattle.circulation.proofs.laws.Bounds.{raise-top}
 use Rattle.circulation.specs.Limits.{potential-limit}
 
-module _ {N : Net} {s count : ℕ} {p x order via room : List ℕ} (g : Grown N s count p x order via room) where
-  -- a reached node has room
-  pub room-some : (u : ℕ) → u < length p → 0 < at order u → 0 < at room u
-  room-some u l reached = elim (ℕ-discrete u s) [
-    | yes e ↦ omega (arith, ap (at room) e, g .tree .root-room)
+module _ {N : Net} {s count : ℕ} {p x order parent residual : List ℕ} (g : Grown N s count p x order parent residual) where
+  -- a reached node has a residual
+  pub residual-some : (u : ℕ) → u < length p → 0 < at order u → 0 < at residual u
+  residual-some u l reached = elim (ℕ-discrete u s) [
+    | yes e ↦ omega (arith, ap (at residual) e, g .tree .root-residual)
     | no ne ↦ g .tree .links u l reached ne .some
   ]
 
   -- where every node is reached, no arc crosses
-  pub crossing-room : Crossing N (at p) (at x) (at order) → count < length p
-  crossing-room some = go (decLt count (length p))
+  pub crossing-residual : Crossing N (at p) (at x) (at order) → count < length p
+  crossing-residual some = go (decLt count (length p))
     where
       one : (v : ℕ) → v < length p → at order v ≡ 0 → 0 < unreached (length p) (at order)
       one v l z =
@@ -46,7 +46,7 @@ module _ {N : Net} {s count : ℕ} {p x order via room : List ℕ} (g : Grown N 
     pub raise-fits : count < length p → (w : ℕ) → w < length p → 0 < at order w → at p w + d ≤ potential-limit
     raise-fits few w l r =
         omega
-        (arith, is-step, raise-top (at x) i (near .0) (g .ready .wf) (g .near) (g .ranks) few (g .low) (near .1) w l r)
+        (arith, is-step, raise-top (at x) i (near .0) (g .ready .wf) (g .near) (g .orders) few (g .low) (near .1) w l r)
 
     -- the potentials fit after the step
     pub raised : Slack N (lifted (at order) (at p) d) (at x)

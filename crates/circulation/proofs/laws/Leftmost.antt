@@ -1,7 +1,7 @@
 -- After a search from the ground that reached every node the potentials are the leftmost of least cost: every node is supported by
 -- the arc over which it was reached, in the order of reaching.
 use Rattle.network.specs.Net.{at, Net}
-use Rattle.circulation.specs.Nodes.{potentials, ranks, parents, rooms, size}
+use Rattle.circulation.specs.Nodes.{potentials, orders, parents, residuals, size}
 use Rattle.circulation.specs.inside.Steps.{Flooded}
 use Rattle.circulation.specs.inside.Finish.{Settled}
 use Rattle.circulation.specs.inside.Optimal.{Support}
@@ -18,8 +18,8 @@ use Prim.Native.Nat.{ℕ, _-_}
 use native.Mathlib.Omega.{arith}
 
 -- the arc over which a node was reached supports it
-link-support : {N : Net} {p x order room : ℕ → ℕ} {v i : ℕ} → Link N p x order room v i → Support N p x order v
-link-support {N} {p} {x} {order} {room} {v} {i} link = record {
+link-support : {N : Net} {p x order residual : ℕ → ℕ} {v i : ℕ} → Link N p x order residual v i → Support N p x order v
+link-support {N} {p} {x} {order} {residual} {v} {i} link = record {
   arc = i;
   arc-in = link .arc-in;
   by = record {
@@ -45,6 +45,6 @@ flooded-solution N n x nodes new wf size-is bal f settled =
     })
     settled
   where
-    tree : Tree N n (n - 1) (at (potentials nodes)) (at x) (at (ranks nodes)) (at (parents nodes)) (at (rooms nodes))
-    tree = subst (λ (k : ℕ). Tree N k (n - 1) (at (potentials nodes)) (at x) (at (ranks nodes)) (at (parents nodes)) (at (rooms nodes)))
+    tree : Tree N n (n - 1) (at (potentials nodes)) (at x) (at (orders nodes)) (at (parents nodes)) (at (residuals nodes))
+    tree = subst (λ (k : ℕ). Tree N k (n - 1) (at (potentials nodes)) (at x) (at (orders nodes)) (at (parents nodes)) (at (residuals nodes)))
         (column-length 0 nodes ∙ size-is) (f .grown .tree)

@@ -2,7 +2,7 @@
 use Rattle.network.specs.Net.{at}
 use Rattle.circulation.specs.inside.Search.{lift, lifted, Moved}
 use Rattle.circulation.specs.inside.Slackness.{Small}
-use Rattle.circulation.specs.Nodes.{potentials, ranks, node-stride}
+use Rattle.circulation.specs.Nodes.{potentials, orders, node-stride}
 use Rattle.circulation.specs.inside.Stores.{Stored, Apart}
 use mathlib.Core.Path.{_≡_, refl, ap, _∙_}
 use mathlib.Core.Logic.{_⊎_, inl, inr, ⊎-elim}
@@ -41,12 +41,12 @@ lift-cases o a d = go (ℕ-discrete o 0)
 pub record Moving (d : ℕ) (nodes₀ nodes : List ℕ) (v : ℕ) : Type 0 where
   pub v-in : v ≤ length nodes₀ / node-stride
   pub only : Apart 0 nodes₀ nodes
-  pub moved : (k : ℕ) → k < v → at (potentials nodes) k ≡ lifted (at (ranks nodes₀)) (at (potentials nodes₀)) d k
+  pub moved : (k : ℕ) → k < v → at (potentials nodes) k ≡ lifted (at (orders nodes₀)) (at (potentials nodes₀)) d k
   pub rest : (k : ℕ) → v ≤ k → at (potentials nodes) k ≡ at (potentials nodes₀) k
 
--- ranks stay
-pub ranks-kept : {old new : List ℕ} → Apart 0 old new → ranks new ≡ ranks old
-ranks-kept a = a .others 2 (omega arith) (λ e. omega arith)
+-- the order stays
+pub orders-kept : {old new : List ℕ} → Apart 0 old new → orders new ≡ orders old
+orders-kept a = a .others 2 (omega arith) (λ e. omega arith)
 
 module _ {d : ℕ} {nodes₀ : List ℕ} where
   -- none is moved at first
@@ -55,14 +55,14 @@ module _ {d : ℕ} {nodes₀ : List ℕ} where
 
   module _ {nodes : List ℕ} {v : ℕ} (m : Moving d nodes₀ nodes v) (l : v < length nodes₀ / node-stride) where
     -- the next one may move
-    pub move-fits : ((u : ℕ) → u < length nodes₀ / node-stride → 0 < at (ranks nodes₀) u → at (potentials nodes₀) u + d ≤ potential-limit)
-        → 0 < at (ranks nodes) v → at (potentials nodes) v + d ≤ potential-limit
+    pub move-fits : ((u : ℕ) → u < length nodes₀ / node-stride → 0 < at (orders nodes₀) u → at (potentials nodes₀) u + d ≤ potential-limit)
+        → 0 < at (orders nodes) v → at (potentials nodes) v + d ≤ potential-limit
     move-fits fits r =
         omega
-        (arith, fits v l (omega (arith, ap (λ (o : List ℕ). at o v) (ranks-kept (m .only)))), m .rest v (le-refl _))
+        (arith, fits v l (omega (arith, ap (λ (o : List ℕ). at o v) (orders-kept (m .only)))), m .rest v (le-refl _))
 
     -- one more is moved
-    pub move-next : (new : List ℕ) → Stored 0 v (lift (at (ranks nodes) v) (at (potentials nodes) v) d) nodes new
+    pub move-next : (new : List ℕ) → Stored 0 v (lift (at (orders nodes) v) (at (potentials nodes) v) d) nodes new
         → Moving d nodes₀ new (v + 1)
     move-next new s = record {
       v-in = omega arith;
@@ -72,30 +72,30 @@ module _ {d : ℕ} {nodes₀ : List ℕ} where
     }
       where
         a : ℕ
-        a = lift (at (ranks nodes) v) (at (potentials nodes) v) d
+        a = lift (at (orders nodes) v) (at (potentials nodes) v) d
 
         other : (k : ℕ) → (k ≡ v → ⊥) → at (potentials new) k ≡ at (potentials nodes) k
         other k ne =
             ap (λ (o : List ℕ). at o k) (s .same)
-            ∙ getD-set-other (potentials nodes) v k (lift (at (ranks nodes) v) (at (potentials nodes) v) d) 0 ne
+            ∙ getD-set-other (potentials nodes) v k (lift (at (orders nodes) v) (at (potentials nodes) v) d) 0 ne
 
-        here : at (potentials new) v ≡ lifted (at (ranks nodes₀)) (at (potentials nodes₀)) d v
+        here : at (potentials new) v ≡ lifted (at (orders nodes₀)) (at (potentials nodes₀)) d v
         here =
             ap (λ (o : List ℕ). at o v) (s .same)
-            ∙ (getD-set-same (potentials nodes) v (lift (at (ranks nodes) v) (at (potentials nodes) v) d) 0 (omega (arith, column-length 0 nodes, m .only .length-same))
-            ∙ (ap (λ (o : ℕ). lift o (at (potentials nodes) v) d) (ap (λ (o : List ℕ). at o v) (ranks-kept (m .only))) ∙ ap (λ (b : ℕ). lift (at (ranks nodes₀) v) b d) (m .rest v (le-refl _))))
+            ∙ (getD-set-same (potentials nodes) v (lift (at (orders nodes) v) (at (potentials nodes) v) d) 0 (omega (arith, column-length 0 nodes, m .only .length-same))
+            ∙ (ap (λ (o : ℕ). lift o (at (potentials nodes) v) d) (ap (λ (o : List ℕ). at o v) (orders-kept (m .only))) ∙ ap (λ (b : ℕ). lift (at (orders nodes₀) v) b d) (m .rest v (le-refl _))))
 
   -- all are
   pub move-end : {nodes : List ℕ} {v : ℕ} → Moving d nodes₀ nodes v → length nodes₀ / node-stride ≤ v → Small (at (potentials nodes₀))
-      → ((u : ℕ) → u < length nodes₀ / node-stride → 0 < at (ranks nodes₀) u → at (potentials nodes₀) u + d ≤ potential-limit)
-      → Moved (length nodes₀ / node-stride) d (at (ranks nodes₀)) (at (potentials nodes₀)) (at (potentials nodes))
+      → ((u : ℕ) → u < length nodes₀ / node-stride → 0 < at (orders nodes₀) u → at (potentials nodes₀) u + d ≤ potential-limit)
+      → Moved (length nodes₀ / node-stride) d (at (orders nodes₀)) (at (potentials nodes₀)) (at (potentials nodes))
   move-end {nodes} {v} m past small fits = record { moved = λ k l. m .moved k (omega arith); small = λ k. go k (decLt k (length nodes₀ / node-stride)) }
     where
       go : (k : ℕ) → Dec (k < length nodes₀ / node-stride) → at (potentials nodes) k ≤ potential-limit
       go k (yes l) = ⊎-elim
           (λ c. omega (arith, m .moved k (omega arith), c .1, fits k l (c .0)))
           (λ c. omega (arith, m .moved k (omega arith), c .1, small k))
-          (lift-cases (at (ranks nodes₀) k) (at (potentials nodes₀) k) d)
+          (lift-cases (at (orders nodes₀) k) (at (potentials nodes₀) k) d)
       go k (no out) = omega (arith, m .rest k (omega (arith, m .v-in)), small k)
 
 -- a step of nothing moves nothing

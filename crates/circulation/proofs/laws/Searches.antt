@@ -1,5 +1,5 @@
--- A search keeps its invariants, and finds a node to spare: potentials of nodes not reached do not rise, so nodes with
--- something to spare stay low.
+-- A search keeps its invariants, and finds an excess: potentials of nodes not reached do not rise, so nodes with
+-- an excess stay low.
 use Rattle.network.specs.laws.SumsTo.{sum-to-change, sum-to-lt}
 use Rattle.network.specs.Net.{at, Net, arcs}
 use Rattle.network.specs.Sums.{sum-to}
@@ -20,12 +20,12 @@ use lib.ListN.{length, List·getD-eq-default}
 use lib.Seq.{getD-set-same, getD-set-other}
 use Rattle.circulation.proofs.laws.Flows.{in-is-out}
 use Rattle.circulation.proofs.laws.Bounds.{search-top}
-use Rattle.circulation.proofs.laws.Cuts.{no-need}
+use Rattle.circulation.proofs.laws.Cuts.{no-deficit}
 use Rattle.network.specs.Packed.{flow-zero}
-use Rattle.circulation.specs.Nodes.{need-zero}
+use Rattle.circulation.specs.Nodes.{deficit-zero}
 use Rattle.circulation.specs.Limits.{rested-limit}
 
--- every node has rank 0
+-- no node is reached
 all-unreached : (n : ℕ) (order : ℕ → ℕ) → ((v : ℕ) → order v ≡ 0) → unreached n order ≡ n
 unfolding sum-to
 all-unreached zero order z = refl
@@ -34,18 +34,18 @@ all-unreached (suc n) order z =
     omega (arith, all-unreached n order z, one)
 
 -- what the search keeps; p₀ are the potentials that it started from
-pub record Searching (N : Net) (s count : ℕ) (p₀ p x e order via room : List ℕ) : Type 0 where
+pub record Searching (N : Net) (s count : ℕ) (p₀ p x e order parent residual : List ℕ) : Type 0 where
   pub state : State N p₀ x e
-  pub root-fits : at room s + need-zero ≤ at e s
+  pub root-fits : at residual s + deficit-zero ≤ at e s
   pub size-same : length p ≡ length p₀
-  pub grown : Grown N s count p x order via room
-  pub full : (v : ℕ) → v < length p → 0 < at order v → need-zero ≤ at e v
+  pub grown : Grown N s count p x order parent residual
+  pub full : (v : ℕ) → v < length p → 0 < at order v → deficit-zero ≤ at e v
   pub kept : (v : ℕ) → v < length p → at order v ≡ 0 → at p v ≡ at p₀ v
 
 -- a search that has reached only s
-module _ {N : Net} (p x order via room : List ℕ) (s : ℕ) (s-in : s < length p) (wf : WellFormed N (length p)) (limited : Limited N) (x-size : length x ≡ arcs N) (small : Low (at p)) (slack : Slack N (at p) (at x))
-    (order-size : length order ≡ length p) (via-size : length via ≡ length p) (room-size : length room ≡ length p)
-    (root : at order s ≡ 1) (alone : (v : ℕ) → (v ≡ s → ⊥) → at order v ≡ 0) (some : 0 < at room s) where
+module _ {N : Net} (p x order parent residual : List ℕ) (s : ℕ) (s-in : s < length p) (wf : WellFormed N (length p)) (limited : Limited N) (x-size : length x ≡ arcs N) (small : Low (at p)) (slack : Slack N (at p) (at x))
+    (order-size : length order ≡ length p) (parent-size : length parent ≡ length p) (residual-size : length residual ≡ length p)
+    (root : at order s ≡ 1) (alone : (v : ℕ) → (v ≡ s → ⊥) → at order v ≡ 0) (some : 0 < at residual s) where
   -- no other node is reached
   only : (v : ℕ) → 0 < at order v → v ≡ s
   only v r = elim (ℕ-discrete v s) [
@@ -67,14 +67,14 @@ module _ {N : Net} (p x order via room : List ℕ) (s : ℕ) (s-in : s < length 
       )
 
   -- the search at its start
-  pub begin-grown : Grown N s 1 p x order via room
+  pub begin-grown : Grown N s 1 p x order parent residual
   begin-grown = record {
     ready = record { wf = wf; limited = limited; x-size = x-size; order-size = order-size; p-in = λ v. omega (arith, small v) };
-    via-size = via-size;
-    room-size = room-size;
+    parent-size = parent-size;
+    residual-size = residual-size;
     slack = slack;
-    tree = record { s-in = s-in; root = root; root-room = some; links = λ v v-in reached ne. absurd (ne (only v reached)) };
-    ranks = λ v. elim (ℕ-discrete v s) [
+    tree = record { s-in = s-in; root = root; root-residual = some; links = λ v v-in reached ne. absurd (ne (only v reached)) };
+    orders = λ v. elim (ℕ-discrete v s) [
       | yes e ↦ omega (arith, ap (at order) e)
       | no ne ↦ omega (arith, alone v ne)
     ];
@@ -84,15 +84,15 @@ module _ {N : Net} (p x order via room : List ℕ) (s : ℕ) (s-in : s < length 
   }
 
 -- a search that has reached only s keeps what it must
-pub search-start : {N : Net} {p x e order via room : List ℕ} (s : ℕ) → s < length p → State N p x e
-    → length order ≡ length p → length via ≡ length p → length room ≡ length p
-    → at order s ≡ 1 → ((v : ℕ) → (v ≡ s → ⊥) → at order v ≡ 0) → 0 < at room s → at room s + need-zero ≤ at e s → Searching N s 1 p p x e order via room
-search-start {N} {p} {x} {e} {order} {via} {room} s s-in st order-size via-size room-size root alone some fits = record {
+pub search-start : {N : Net} {p x e order parent residual : List ℕ} (s : ℕ) → s < length p → State N p x e
+    → length order ≡ length p → length parent ≡ length p → length residual ≡ length p
+    → at order s ≡ 1 → ((v : ℕ) → (v ≡ s → ⊥) → at order v ≡ 0) → 0 < at residual s → at residual s + deficit-zero ≤ at e s → Searching N s 1 p p x e order parent residual
+search-start {N} {p} {x} {e} {order} {parent} {residual} s s-in st order-size parent-size residual-size root alone some fits = record {
   state = st;
   root-fits = fits;
   size-same = refl;
   grown =
-      begin-grown p x order via room s s-in (st .wf) (st .limited) (st .x-size) (st .p-in) (st .slack) order-size via-size room-size
+      begin-grown p x order parent residual s s-in (st .wf) (st .limited) (st .x-size) (st .p-in) (st .slack) order-size parent-size residual-size
       root alone some;
   full = λ v l r. elim (ℕ-discrete v s) [
     | yes same ↦ omega (arith, ap (at e) same)
@@ -101,22 +101,22 @@ search-start {N} {p} {x} {e} {order} {via} {room} s s-in st order-size via-size 
   kept = λ v l z. refl;
 }
 
--- while no reached node has anything to spare, some arc crosses
-pub search-crosses : {N : Net} {s count : ℕ} {p₀ p x e order via room : List ℕ}
-    → Searching N s count p₀ p x e order via room → Crossing N (at p) (at x) (at order)
+-- while no reached node has an excess, some arc crosses
+pub search-crosses : {N : Net} {s count : ℕ} {p₀ p x e order parent residual : List ℕ}
+    → Searching N s count p₀ p x e order parent residual → Crossing N (at p) (at x) (at order)
 search-crosses {N} {s} {count} {p₀} {p} {x} {e} {order} g none =
-    no-need N (length p) (at p) (at x) (at order) (at e) (g .grown .ready .wf) (g .grown .ready .limited) (g .grown .slack) (rw (g .size-same) (g .state .needs-are)) none
-    (g .full) s (g .grown .tree .s-in) (omega (arith, g .grown .tree .root)) (omega (arith, g .root-fits, g .grown .tree .root-room))
+    no-deficit N (length p) (at p) (at x) (at order) (at e) (g .grown .ready .wf) (g .grown .ready .limited) (g .grown .slack) (rw (g .size-same) (g .state .deficits-are)) none
+    (g .full) s (g .grown .tree .s-in) (omega (arith, g .grown .tree .root)) (omega (arith, g .root-fits, g .grown .tree .root-residual))
 
-module _ {N : Net} {s count : ℕ} {p₀ p x e order via room p′ order′ via′ room′ : List ℕ} (v : ℕ)
-    (g : Searching N s count p₀ p x e order via room) (m : Extends N s count x p order p′ order′ via′ room′ v) (same-room : at room′ s ≡ at room s) where
+module _ {N : Net} {s count : ℕ} {p₀ p x e order parent residual p′ order′ parent′ residual′ : List ℕ} (v : ℕ)
+    (g : Searching N s count p₀ p x e order parent residual) (m : Extends N s count x p order p′ order′ parent′ residual′ v) (same-residual : at residual′ s ≡ at residual s) where
   -- who is reached now and is not v was before
-  rank : (u : ℕ) → 0 < at order′ u → (u ≡ v → ⊥) → 0 < at order u
-  rank u l ne =
+  reached-before : (u : ℕ) → 0 < at order′ u → (u ≡ v → ⊥) → 0 < at order u
+  reached-before u l ne =
       let kept : at order′ u ≡ at order u = ap (λ (o : List ℕ). at o u) (m .stored) ∙ getD-set-other order v u (count + 1) 0 ne in
       omega arith
 
-  -- the rank of v
+  -- the place of v
   here : at order′ v ≡ count + 1
   here =
       ap (λ (o : List ℕ). at o v) (m .stored)
@@ -133,8 +133,8 @@ module _ {N : Net} {s count : ℕ} {p₀ p x e order via room p′ order′ via�
   kept′ : (u : ℕ) → u < length p → at order u ≡ 0 → at p′ u ≡ at p₀ u
   kept′ u u-in z = m .kept u u-in z ∙ g .kept u u-in z
 
-  -- v has nothing to spare: the search goes on
-  pub search-next : need-zero ≤ at e v → Searching N s (count + 1) p₀ p′ x e order′ via′ room′
+  -- v has no excess: the search goes on
+  pub search-next : deficit-zero ≤ at e v → Searching N s (count + 1) p₀ p′ x e order′ parent′ residual′
   search-next enough = record {
     state = g .state;
     root-fits = omega (arith, g .root-fits);
@@ -144,12 +144,12 @@ module _ {N : Net} {s count : ℕ} {p₀ p x e order via room p′ order′ via�
     kept = λ u u-in z. kept′ u (omega (arith, m .size-same)) (was-not u z);
   }
     where
-      go : (u : ℕ) → u < length p′ → 0 < at order′ u → Dec (u ≡ v) → need-zero ≤ at e u
+      go : (u : ℕ) → u < length p′ → 0 < at order′ u → Dec (u ≡ v) → deficit-zero ≤ at e u
       go u u-in l (yes same) = rw same enough
-      go u u-in l (no ne) = g .full u (omega (arith, m .size-same)) (rank u l ne)
+      go u u-in l (no ne) = g .full u (omega (arith, m .size-same)) (reached-before u l ne)
 
-  -- v has something to spare: the search ends
-  pub search-found : at e v < need-zero → Reached N s v p′ x e order′ via′ room′
+  -- v has an excess: the search ends
+  pub search-found : at e v < deficit-zero → Reached N s v p′ x e order′ parent′ residual′
   search-found less = record {
     state = record {
       wf = m .grown .ready .wf;
@@ -159,18 +159,18 @@ module _ {N : Net} {s count : ℕ} {p₀ p x e order via room p′ order′ via�
       p-in = low;
       calm = calm;
       slack = m .grown .slack;
-      needs-are = rw (same-size) (g .state .needs-are);
+      deficits-are = rw (same-size) (g .state .deficits-are);
       spare-high = rw (same-size) (g .state .spare-high);
       spare-low = rw (same-size) (g .state .spare-low);
     };
     order-size = m .grown .ready .order-size;
-    via-size = m .grown .via-size;
-    room-size = m .grown .room-size;
+    parent-size = m .grown .parent-size;
+    residual-size = m .grown .residual-size;
     root-fits = omega (arith, g .root-fits);
     tree = m .grown .tree;
     t-in = omega (arith, m .v-in, m .size-same);
     t-reached = omega (arith, here);
-    deficit = less;
+    excess = less;
   }
     where
       same-size : length p′ ≡ length p₀
@@ -187,15 +187,15 @@ module _ {N : Net} {s count : ℕ} {p₀ p x e order via room p′ order′ via�
           reached u-in (yes z) = m .grown .low u u-in z
           reached u-in (no ne) =
               search-top (m .grown .ready .wf .nodes) (m .grown .near)
-              (λ w. omega (arith, m .grown .ranks w, m .grown .rest)) (omega (arith, m .v-in, m .size-same))
+              (λ w. omega (arith, m .grown .orders w, m .grown .rest)) (omega (arith, m .v-in, m .size-same))
               (omega (arith, here)) v-low u u-in (omega arith)
 
           inside : Dec (u < length p′) → at p′ u ≤ rested-limit
           inside (yes l) = reached l (ℕ-discrete (at order′ u) 0)
           inside (no past) = omega (arith, List·getD-eq-default p′ 0 {n = u} (omega arith))
 
-      -- of the reached nodes only v has something to spare
-      calm : (u : ℕ) → u < length p′ → at e u < need-zero → at p′ u ≤ flow-zero
+      -- of the reached nodes only v has an excess
+      calm : (u : ℕ) → u < length p′ → at e u < deficit-zero → at p′ u ≤ flow-zero
       calm u u-in few = go (ℕ-discrete u v) (ℕ-discrete (at order′ u) 0)
         where
           go : Dec (u ≡ v) → Dec (at order′ u ≡ 0) → at p′ u ≤ flow-zero
@@ -206,10 +206,10 @@ module _ {N : Net} {s count : ℕ} {p₀ p x e order via room p′ order′ via�
                 kept′ u (omega (arith, m .size-same)) (was-not u z),
                 g .state .calm u (omega (arith, same-size)) few,
               )
-          go (no ne) (no r) = absurd (omega (arith, g .full u (omega (arith, m .size-same)) (rank u (omega arith) ne)))
+          go (no ne) (no r) = absurd (omega (arith, g .full u (omega (arith, m .size-same)) (reached-before u (omega arith) ne)))
 
--- no node needs anything: then none has anything to spare
-pub solved : {N : Net} {p x e : List ℕ} → State N p x e → ((v : ℕ) → v < length p → at e v ≤ need-zero)
+-- no node has a deficit: then none has an excess
+pub solved : {N : Net} {p x e : List ℕ} → State N p x e → ((v : ℕ) → v < length p → at e v ≤ deficit-zero)
     → Slack N (at p) (at x) × Balanced N (length p) (at x)
 solved {N} {p} {x} {e} s none = (
   s .slack,
@@ -217,7 +217,7 @@ solved {N} {p} {x} {e} s none = (
 )
   where
     low : (v : ℕ) → v < length p → outflow N (arcs N) (at x) v ≤ inflow N (arcs N) (at x) v
-    low v v-in = omega (arith, s .needs-are .need v v-in, none v v-in)
+    low v v-in = omega (arith, s .deficits-are .each v v-in, none v v-in)
 
     go : (v : ℕ) → v < length p → Dec (outflow N (arcs N) (at x) v < inflow N (arcs N) (at x) v)
         → inflow N (arcs N) (at x) v ≡ outflow N (arcs N) (at x) v

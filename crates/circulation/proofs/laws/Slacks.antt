@@ -32,8 +32,8 @@ module _ {N : Net} {p x : ℕ → ℕ} (order : ℕ → ℕ) (s : Slack N p x) (
       go : Dec (stands N p i < asks N p i) → Dec (low N i < x i) → x i ≡ low N i
       go (yes slack) z = s .left i l slack
       go (no missing) (no z) = omega (arith, s .within i l .0)
-      go (no missing) (yes room) =
-          absurd (omega (arith, least i l (inr (record { from = from; to = to; slack = omega arith; room = room }))))
+      go (no missing) (yes residual) =
+          absurd (omega (arith, least i l (inr (record { from = from; to = to; slack = omega arith; residual = residual }))))
 
   -- an arc that enters them and would be right of it
   enters : (i : ℕ) → i < arcs N → 0 < order (head N i) → order (tail N i) ≡ 0 → asks N p i < stands N p i + d → x i ≡ high N i
@@ -41,8 +41,8 @@ module _ {N : Net} {p x : ℕ → ℕ} (order : ℕ → ℕ) (s : Slack N p x) (
     where
       go : Dec (asks N p i < stands N p i) → Dec (x i < high N i) → x i ≡ high N i
       go (yes missing) z = s .right i l missing
-      go (no slack) (yes room) =
-          absurd (omega (arith, least i l (inl (record { from = from; to = to; slack = omega arith; room = room }))))
+      go (no slack) (yes residual) =
+          absurd (omega (arith, least i l (inl (record { from = from; to = to; slack = omega arith; residual = residual }))))
       go (no slack) (no full) = omega (arith, s .within i l .1)
 
   -- the potentials fit after the step

@@ -1,12 +1,12 @@
--- The flows and needs at the start fit the potentials: each arc by where it stands.
+-- The flows and deficits at the start fit the potentials: each arc by where it stands.
 use Rattle.network.specs.laws.SumsTo.{sum-to-le, sum-to-add, sum-to-bound}
 use Rattle.network.specs.Net.{at, Net, net, arcs, tail, head, low, high, asks, stands}
 use Rattle.circulation.specs.inside.Slackness.{flow, inflow, outflow, Slack, FilledAt}
 use Rattle.network.specs.WellFormed.{WellFormed}
 use Rattle.circulation.specs.Input.{LowIn, HighIn, LimitsIn, Limited, Feasible, Valid}
-use Rattle.circulation.specs.Nodes.{potentials, needs, node-stride, need-zero}
+use Rattle.circulation.specs.Nodes.{potentials, deficits, node-stride, deficit-zero}
 use Rattle.circulation.specs.inside.Stores.{Apart}
-use Rattle.circulation.specs.inside.Search.{Need, surplus, State}
+use Rattle.circulation.specs.inside.Search.{Deficits, total-deficit, State}
 use mathlib.Core.Path.{_≡_, refl, sym, subst}
 use mathlib.Core.List.{List}
 use Prim.Native.Nat.{ℕ, _+_, _-_, _/_, _≤_, _<_}
@@ -79,12 +79,12 @@ module _ {N : Net} {n : ℕ} (p x : ℕ → ℕ) (wf : WellFormed N n) (limited 
       )
 
   -- little is to be moved: at most 2^24
-  pub first-surplus : {e : ℕ → ℕ} → Need N n x e → surplus n e ≤ 16777216
-  first-surplus {e} ex = omega (
+  pub first-total : {e : ℕ → ℕ} → Deficits N n x e → total-deficit n e ≤ 16777216
+  first-total {e} ex = omega (
     arith,
-    sum-to-le n (λ v. e v - need-zero) (λ v. flow (arcs N) (tail N) (λ i. 1024) v + flow (arcs N) (head N) (λ i. 1024) v) (λ v v-in. omega (
+    sum-to-le n (λ v. e v - deficit-zero) (λ v. flow (arcs N) (tail N) (λ i. 1024) v + flow (arcs N) (head N) (λ i. 1024) v) (λ v v-in. omega (
       arith,
-      ex .need v v-in,
+      ex .each v v-in,
       flow-near (arcs N) 1024 (tail N) x (λ i. flow-zero) v (λ i l. omega (arith, first-near i l .1)),
       flow-near (arcs N) 1024 (head N) (λ i. flow-zero) x v (λ i l. omega (arith, first-near i l .0)),
     )),
@@ -98,9 +98,9 @@ module _ {N : Net} {n : ℕ} (p x : ℕ → ℕ) (wf : WellFormed N n) (limited 
 -- the state that the method starts in
 pub first-state : {N : Net} {n : ℕ} {p : List ℕ} (x e : List ℕ) → Valid N n p → length p ≡ n → length x ≡ arcs N → length e ≡ n
     → ((i : ℕ) → i < arcs N → FilledAt N (at p) i (at x i))
-    → ((v : ℕ) → v < n → at e v + inflow N (arcs N) (at x) v ≡ need-zero + outflow N (arcs N) (at x) v) → State N p x e
-first-state {N} {n} {p} x e v p-size x-size e-size filled need =
-    let few = first-surplus (at p) (at x) (v .wf) (v .limited) (v .feasible) filled (record { need = need }) in
+    → ((v : ℕ) → v < n → at e v + inflow N (arcs N) (at x) v ≡ deficit-zero + outflow N (arcs N) (at x) v) → State N p x e
+first-state {N} {n} {p} x e v p-size x-size e-size filled is-deficit =
+    let few = first-total (at p) (at x) (v .wf) (v .limited) (v .feasible) filled (record { each = is-deficit }) in
     record {
       wf = rw p-size (v .wf);
       limited = v .limited;
@@ -109,7 +109,7 @@ first-state {N} {n} {p} x e v p-size x-size e-size filled need =
       p-in = λ u. omega (arith, v .p-in u);
       calm = λ u l less. v .p-in u;
       slack = first-slack (at p) (at x) (v .wf) (v .limited) (v .feasible) filled;
-      needs-are = record { need = λ u l. need u (omega (arith, p-size)) };
+      deficits-are = record { each = λ u l. is-deficit u (omega (arith, p-size)) };
       spare-high = rw p-size (λ i l hard. omega (arith, few, first-near (at p) (at x) (v .wf) (v .limited) (v .feasible) filled i l .1));
       spare-low = rw p-size (λ i l hard. omega (arith, few, first-near (at p) (at x) (v .wf) (v .limited) (v .feasible) filled i l .0));
     }
@@ -125,16 +125,16 @@ filled-top N p i y a f =
     go (no nl) (yes more) (no ne) = omega (arith, f .right more, a .high-in .soft ne)
     go (no nl) (no nr) h = omega (arith, f .on (omega arith))
 
--- the state after the first flows are stored and the needs counted
+-- the state after the first flows are stored and the deficits counted
 pub run-start : (list x₀ x nodes new : List ℕ) → Valid (net list (length x₀)) (length nodes / node-stride) (potentials nodes) → length x ≡ length x₀
     → ((i : ℕ) → i < length x₀ → FilledAt (net list (length x₀)) (at (potentials nodes)) i (at x i))
-    → ((v : ℕ) → v < length nodes / node-stride → at (needs new) v + inflow (net list (length x)) (length x) (at x) v ≡ need-zero + outflow (net list (length x)) (length x) (at x) v)
-    → Apart 1 nodes new → State (net list (length x)) (potentials new) x (needs new)
-run-start list x₀ x nodes new v same filled need only =
-    rw (only .others 0 (omega arith) (λ e. omega arith)) (first-state x (needs new)
+    → ((v : ℕ) → v < length nodes / node-stride → at (deficits new) v + inflow (net list (length x)) (length x) (at x) v ≡ deficit-zero + outflow (net list (length x)) (length x) (at x) v)
+    → Apart 1 nodes new → State (net list (length x)) (potentials new) x (deficits new)
+run-start list x₀ x nodes new v same filled is-deficit only =
+    rw (only .others 0 (omega arith) (λ e. omega arith)) (first-state x (deficits new)
     (subst (λ (m : ℕ). Valid (net list m) (length nodes / node-stride) (potentials nodes)) (sym same) v)
     (column-length 0 nodes)
     refl
     (omega (arith, column-length 1 new, only .length-same))
     (subst (λ (m : ℕ). (i : ℕ) → i < m → FilledAt (net list m) (at (potentials nodes)) i (at x i)) (sym same) filled)
-    need)
+    is-deficit)

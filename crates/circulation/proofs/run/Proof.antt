@@ -1,6 +1,6 @@
--- `circulation::run` meets its contract: the loop's invariant is `StateAt`; the surplus falls.
+-- `circulation::run` meets its contract: the loop's invariant is `StateAt`; the total deficit falls.
 use Rattle.circulation.specs.inside.Steps.{Ends}
-use Rattle.circulation.specs.inside.Search.{State, surplus}
+use Rattle.circulation.specs.inside.Search.{State, total-deficit}
 use Rattle.circulation.specs.Nodes.{size, column, potentials, node-stride}
 use Rattle.network.specs.Net.{net, at}
 use Rattle.circulation.specs.inside.Slackness.{Balanced}
@@ -22,15 +22,15 @@ Inv-loop arcs flows₀ nodes₀ flows nodes =
     × (length nodes ≡ length nodes₀)
 
 abbrev μ-loop : tie.MeasureT-loop
-μ-loop arcs flows₀ nodes₀ flows nodes = surplus (length nodes₀ / node-stride) (at (column 1 nodes))
+μ-loop arcs flows₀ nodes₀ flows nodes = total-deficit (length nodes₀ / node-stride) (at (column 1 nodes))
 
 saturate-requires : tie.Need-saturate-requires Inv-loop μ-loop
 saturate-requires c κs =
     let start = c .before .before .before .before .before in
     start .pre
 
-count-need-requires : tie.Need-count-need-requires Inv-loop μ-loop
-count-need-requires c κs =
+count-deficits-requires : tie.Need-count-deficits-requires Inv-loop μ-loop
+count-deficits-requires c κs =
     let start = c .before .before .before .before .before .before .before .before .before .before in
     let saturate = c .before .before .before .before .saturate in (
       rw (saturate .kept .1 .0) (start .pre .wf),
@@ -44,10 +44,10 @@ loop-holds : tie.Need-loop-holds Inv-loop μ-loop
 loop-holds c =
     let start = c .before .before .before .before .before .before .before .before .before .before .before .before .before in
     let saturate = c .before .before .before .before .before .before .before .saturate in
-    let count-need = c .before .before .count-need in (
+    let count-deficits = c .before .before .count-deficits in (
       run-start (start .args .arcs .now) (start .args .flows .now) (saturate .last .1 .0) (start .args .nodes .now)
-          (count-need .last .1 .1 .0) (start .pre) (saturate .kept .1 .0) (saturate .ensures) (count-need .ensures .0)
-          (count-need .ensures .1),
+          (count-deficits .last .1 .1 .0) (start .pre) (saturate .kept .1 .0) (saturate .ensures) (count-deficits .ensures .0)
+          (count-deficits .ensures .1),
       refl,
     )
 
@@ -68,22 +68,22 @@ same-length c =
 
 same-length-2 : tie.Need-same-length-2 Inv-loop μ-loop
 same-length-2 c =
-    let count-need = c .before .before .before .before .before .before .before .count-need in
+    let count-deficits = c .before .before .before .before .before .before .before .count-deficits in
     let loop = c .before .before .before .before .loop in
-    loop .inv .1 ∙ count-need .ensures .1 .length-same
+    loop .inv .1 ∙ count-deficits .ensures .1 .length-same
 
 returns : tie.Need-returns Inv-loop μ-loop
 returns c =
     let start = c .before .before .before .before .before .before .before .before .before .before .before .before .before .before .before .before .before .before in
     let saturate = c .before .before .before .before .before .before .before .before .before .before .before .before .saturate in
-    let count-need = c .before .before .before .before .before .before .before .count-need in
+    let count-deficits = c .before .before .before .before .before .before .before .count-deficits in
     let loop = c .before .before .before .before .loop in
     subst
     (λ (m : ℕ). Ends (net (start .args .arcs .now) m) (size (start .args .nodes .now)) (loop .flows) (loop .nodes))
     (saturate .kept .1 .0) (
       loop .inv .0,
       subst (λ (n : ℕ). Balanced (net (start .args .arcs .now) (length (saturate .last .1 .0))) n (at (loop .flows)))
-          (column-length 0 (loop .nodes) ∙ ap (λ (k : ℕ). k / node-stride) (loop .inv .1 ∙ count-need .ensures .1 .length-same))
+          (column-length 0 (loop .nodes) ∙ ap (λ (k : ℕ). k / node-stride) (loop .inv .1 ∙ count-deficits .ensures .1 .length-same))
           (solved (loop .inv .0)
           (λ v l. (rw (c .enum-told .given .1) at (c .before .before .source .ensures)) v
           (omega (arith, column-length 0 (loop .nodes)))) .1),
@@ -103,18 +103,18 @@ augment-requires c κs = c .before .before .before .before .search .ensures .rea
 
 loop-less : tie.Need-loop-less Inv-loop μ-loop
 loop-less c =
-    let count-need = c .before .before .before .before .before .before .before .before .before .before .before .before .before .before .before .before .before .before .before .before .count-need in
+    let count-deficits = c .before .before .before .before .before .before .before .before .before .before .before .before .before .before .before .before .before .before .before .before .count-deficits in
     let loop = c .before .before .before .before .before .before .before .before .before .before .before .before .before .before .before .before .before .loop in
     let search = c .before .before .before .before .before .before .before .before .before .search in
     let augment = c .before .before .before .before .augment in
     omega (
       arith,
       augment .ensures .less,
-      ap (λ (k : ℕ). surplus k (at (column 1 (augment .last .1 .1 .0))))
+      ap (λ (k : ℕ). total-deficit k (at (column 1 (augment .last .1 .1 .0))))
           (ap (λ (k : ℕ). k / node-stride) (augment .ensures .length-same ∙ (search .ensures .length-same ∙ loop .inv .1))),
-      ap (λ (k : ℕ). surplus k (at (column 1 (search .last .1 .1 .0))))
+      ap (λ (k : ℕ). total-deficit k (at (column 1 (search .last .1 .1 .0))))
           (ap (λ (k : ℕ). k / node-stride) (search .ensures .length-same ∙ loop .inv .1)),
-      ap (λ (l : List ℕ). surplus (length (count-need .last .1 .1 .0) / node-stride) (at l)) (search .ensures .needs-same),
+      ap (λ (l : List ℕ). total-deficit (length (count-deficits .last .1 .1 .0) / node-stride) (at l)) (search .ensures .deficits-same),
     )
 
 loop-again : tie.Need-loop-again Inv-loop μ-loop
@@ -137,7 +137,7 @@ run-spec =
     Inv-loop
     μ-loop
     saturate-requires
-    count-need-requires
+    count-deficits-requires
     loop-holds
     source-requires
     enum-known-s

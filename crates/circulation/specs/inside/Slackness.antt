@@ -52,7 +52,7 @@ Low p = (v : ℕ) → p v ≤ rested-limit
 abbrev pub Small : (ℕ → ℕ) → Type 0
 Small p = (v : ℕ) → p v ≤ potential-limit
 
--- the network with potentials p, flows x and ranks order, of fitting lengths
+-- the network with potentials p, flows x and the order, of fitting lengths
 pub record Ready (N : Net) (p x order : List ℕ) : Type 0 where
   pub wf : WellFormed N (length p)
   pub limited : Limited N

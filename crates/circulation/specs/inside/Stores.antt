@@ -1,6 +1,6 @@
 -- What a store changes in the packed nodes, and what it leaves.
 use Rattle.network.specs.Net.{at}
-use Rattle.circulation.specs.Nodes.{node-stride, column, potentials, needs, ranks, parents, rooms}
+use Rattle.circulation.specs.Nodes.{node-stride, column, potentials, deficits, orders, parents, residuals}
 use mathlib.Core.Path.{_≡_}
 use mathlib.Core.List.{List}
 use Prim.Native.Nat.{ℕ, _<_}
@@ -17,20 +17,20 @@ pub record Apart (k : ℕ) (old new : List ℕ) : Type 0 where
   pub others : (j : ℕ) → j < node-stride → (j ≡ k → ⊥) → column j new ≡ column j old
   pub length-same : length new ≡ length old
 
--- node v is reached with the rank, parent and room given
-pub record Reaches (v rank parent room : ℕ) (old new : List ℕ) : Type 0 where
+-- node v is reached with the place in the order, parent and residual given
+pub record Reaches (v order parent residual : ℕ) (old new : List ℕ) : Type 0 where
   pub length-same : length new ≡ length old
   pub potentials-same : potentials new ≡ potentials old
-  pub needs-same : needs new ≡ needs old
-  pub ranks-set : ranks new ≡ set (ranks old) v rank
+  pub deficits-same : deficits new ≡ deficits old
+  pub orders-set : orders new ≡ set (orders old) v order
   pub parents-set : parents new ≡ set (parents old) v parent
-  pub rooms-set : rooms new ≡ set (rooms old) v room
+  pub residuals-set : residuals new ≡ set (residuals old) v residual
 
--- only s is reached, with the room given
-pub record Begun (s room : ℕ) (old new : List ℕ) : Type 0 where
+-- only s is reached, with the residual given
+pub record Begun (s residual : ℕ) (old new : List ℕ) : Type 0 where
   pub length-same : length new ≡ length old
   pub potentials-same : potentials new ≡ potentials old
-  pub needs-same : needs new ≡ needs old
-  pub root : at (ranks new) s ≡ 1
-  pub alone : (v : ℕ) → (v ≡ s → ⊥) → at (ranks new) v ≡ 0
-  pub root-room : at (rooms new) s ≡ room
+  pub deficits-same : deficits new ≡ deficits old
+  pub root : at (orders new) s ≡ 1
+  pub alone : (v : ℕ) → (v ≡ s → ⊥) → at (orders new) v ≡ 0
+  pub root-residual : at (residuals new) s ≡ residual

@@ -3,7 +3,7 @@
 use Rattle.network.specs.laws.Tests.{fails, Listed}
 use Rattle.network.specs.Net.{at, Net, arcs, tail, head, low, high, asks, stands, meant}
 use Rattle.network.specs.laws.Indexed.{upto-length, upto-ext, listed-upto}
-use Rattle.circulation.specs.Nodes.{potentials, ranks, size, potential-zero}
+use Rattle.circulation.specs.Nodes.{potentials, orders, size, potential-zero}
 use Rattle.network.specs.laws.IntegerParts.{parts-eq, less-parts}
 use Rattle.network.specs.Integers.{down, up, eqZ}
 use Rattle.network.specs.laws.Integers.{eqZ→eq}
@@ -124,7 +124,7 @@ module _ (N : Net) (n : ℕ) (p x order : ℕ → ℕ) (wf : WellFormed N n) (o 
 
 -- the same of the nodes as they are packed, once their potentials are relative to ground's
 pub settled-solution : {N : Net} {n : ℕ} (x nodes new : List ℕ) → WellFormed N n → Limited N → size nodes ≡ n
-    → Optimal N n (at (potentials nodes)) (at x) (at (ranks nodes)) → Settled nodes new → Solution N n (at x) (at (potentials new))
+    → Optimal N n (at (potentials nodes)) (at x) (at (orders nodes)) → Settled nodes new → Solution N n (at x) (at (potentials new))
 settled-solution {N} {n} x nodes new wf limited size-is o settled =
-    optimal-solution N n (at (potentials nodes)) (at x) (at (ranks nodes)) wf o limited (at (potentials new))
+    optimal-solution N n (at (potentials nodes)) (at x) (at (orders nodes)) wf o limited (at (potentials new))
     (λ v l. omega (arith, settled .relative v (omega arith), ap (λ (k : ℕ). at (potentials nodes) (k - 1)) size-is))

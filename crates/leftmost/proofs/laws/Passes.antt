@@ -6,7 +6,7 @@ use mathlib.Core.List.{List}
 use native.Mathlib.Omega.{arith}
 use Rattle.network.specs.Net.{at, Net, arcs}
 use Rattle.network.specs.WellFormed.{WellFormed}
-use Rattle.circulation.specs.Nodes.{node-stride, need-zero, size, potentials, needs, ranks}
+use Rattle.circulation.specs.Nodes.{node-stride, deficit-zero, size, potentials, deficits, orders}
 use Rattle.circulation.specs.Input.{First, Limited}
 use Rattle.circulation.specs.inside.Slackness.{Slack, Balanced, inflow, outflow}
 use Rattle.circulation.specs.inside.Stores.{Apart}
@@ -25,21 +25,21 @@ fit-slack f = record {
   right = λ i l. f .each i l .right;
 }
 
--- where no node needs anything, as much flows in as out
+-- where no node has a deficit or an excess, as much flows in as out
 level-balanced : {N : Net} {n : ℕ} {x : ℕ → ℕ} (nodes : List ℕ) → size nodes ≡ n → Level nodes
-    → ((v : ℕ) → v < n → at (needs nodes) v + inflow N (arcs N) x v ≡ need-zero + outflow N (arcs N) x v) → Balanced N n x
+    → ((v : ℕ) → v < n → at (deficits nodes) v + inflow N (arcs N) x v ≡ deficit-zero + outflow N (arcs N) x v) → Balanced N n x
 level-balanced nodes size-is level counts = record { balance = λ v l. omega (arith, level .each v (omega arith), counts v l) }
 
--- the parts together: only the needs were counted anew
+-- the parts together: only the deficits were counted anew
 pub passes : {N : Net} (x old new : List ℕ) → First (at (potentials old)) → AllFit N (at (potentials old)) (at x)
-    → AllSupported N (size old) (at (potentials old)) (at x) (at (ranks old))
-    → ((v : ℕ) → v < size old → at (needs new) v + inflow N (arcs N) (at x) v ≡ need-zero + outflow N (arcs N) (at x) v)
+    → AllSupported N (size old) (at (potentials old)) (at x) (at (orders old))
+    → ((v : ℕ) → v < size old → at (deficits new) v + inflow N (arcs N) (at x) v ≡ deficit-zero + outflow N (arcs N) (at x) v)
     → Apart 1 old new → Level new → Passes N (size old) x new
 passes {N} x old new first fit supported counts apart level =
     record {
       optimal =
-          subst (λ (p : List ℕ). Optimal N (size old) (at p) (at x) (at (ranks new))) (sym potentials-same)
-          (subst (λ (o : List ℕ). Optimal N (size old) (at (potentials old)) (at x) (at o)) (sym ranks-same) (record {
+          subst (λ (p : List ℕ). Optimal N (size old) (at p) (at x) (at (orders new))) (sym potentials-same)
+          (subst (λ (o : List ℕ). Optimal N (size old) (at (potentials old)) (at x) (at o)) (sym orders-same) (record {
             slack = fit-slack fit;
             balanced = level-balanced new (omega (arith, apart .length-same)) level counts;
             supported = supported .each;
@@ -50,8 +50,8 @@ passes {N} x old new first fit supported counts apart level =
     potentials-same : potentials new ≡ potentials old
     potentials-same = apart .others 0 (omega arith) (λ e. omega arith)
 
-    ranks-same : ranks new ≡ ranks old
-    ranks-same = apart .others 2 (omega arith) (λ e. omega arith)
+    orders-same : orders new ≡ orders old
+    orders-same = apart .others 2 (omega arith) (λ e. omega arith)
 
 module _ {N : Net} {n : ℕ} {x : List ℕ} (nodes : List ℕ) (size-is : size nodes ≡ n) (wf : WellFormed N n) (p : Passes N n x nodes) where
   -- it can be stored relative to ground

@@ -3,7 +3,7 @@ use Prim.Native.Nat.{ℕ, _-_, _≤_, _<_}
 use mathlib.Core.Path.{_≡_}
 use mathlib.Core.List.{List}
 use Rattle.network.specs.Net.{at, Net, arcs, low, high, stands, asks}
-use Rattle.circulation.specs.Nodes.{node-stride, need-zero, size, potentials, needs, ranks}
+use Rattle.circulation.specs.Nodes.{node-stride, deficit-zero, size, potentials, deficits, orders}
 use Rattle.circulation.specs.Limits.{flow-least, flow-most}
 use Rattle.circulation.specs.Input.{First}
 use Rattle.circulation.specs.Solutions.{Solution}
@@ -29,13 +29,13 @@ pub record AllFit (N : Net) (p x : ℕ → ℕ) : Type 0 where
 pub record AllSupported (N : Net) (n : ℕ) (p x order : ℕ → ℕ) : Type 0 where
   pub each : (v : ℕ) → v < n - 1 → Support N p x order v
 
--- no node needs anything, or has something to spare
+-- no node has a deficit or an excess
 pub record Level (nodes : List ℕ) : Type 0 where
-  pub each : (v : ℕ) → v < size nodes → at (needs nodes) v ≡ need-zero
+  pub each : (v : ℕ) → v < size nodes → at (deficits nodes) v ≡ deficit-zero
 
 -- the flows x and the nodes are optimal, and no potential is too large to be stored relative to ground's
 pub record Passes (N : Net) (n : ℕ) (x nodes : List ℕ) : Type 0 where
-  pub optimal : Optimal N n (at (potentials nodes)) (at x) (at (ranks nodes))
+  pub optimal : Optimal N n (at (potentials nodes)) (at x) (at (orders nodes))
   pub small : First (at (potentials nodes))
 
 -- a solution is left, and 0 in the other numbers of the nodes and in room

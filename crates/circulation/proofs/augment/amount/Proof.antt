@@ -1,4 +1,4 @@
--- `circulation::augment::amount` meets its contract: the lesser of what t has to spare and its room.
+-- `circulation::augment::amount` meets its contract: the lesser of t's excess and its residual.
 use native.Mathlib.Omega.{arith}
 use borrow.Author.Needs.{needs}
 use Rattle.circulation.proofs.augment.amount.Statement.{statement}
@@ -23,8 +23,8 @@ returns c =
     record {
       some = c .least .ensures .2 (omega (arith, get .ensures, start .pre .2))
           (omega (arith, c .before .get2 .ensures, start .pre .3));
-      room-fits = omega (arith, c .least .ensures .1, c .before .get2 .ensures);
-      spare-fits = omega (arith, c .least .ensures .0, get .ensures, start .pre .2);
+      residual-fits = omega (arith, c .least .ensures .1, c .before .get2 .ensures);
+      excess-fits = omega (arith, c .least .ensures .0, get .ensures, start .pre .2);
     }
 
 pub amount-spec : {M : Type 1} → statement M

@@ -1,6 +1,6 @@
 -- `circulation::augment::augment` meets its contract: the walk moves the amount, and the charge counts it at the two ends.
-use Rattle.circulation.proofs.laws.Rooms.{augments}
-use Rattle.circulation.proofs.laws.Amounts.{end-room, amount-most}
+use Rattle.circulation.proofs.laws.Augmented.{augments}
+use Rattle.circulation.proofs.laws.Amounts.{end-residual, amount-most}
 use Rattle.circulation.specs.laws.Columns.{column-length}
 use native.Mathlib.Omega.{arith}
 use borrow.Author.Needs.{needs}
@@ -12,8 +12,8 @@ amount-requires c κs =
     let start = c .before .before .before .before in (
       omega (arith, start .pre .state .wf .nodes, column-length 0 (start .args .nodes .now)),
       omega (arith, start .pre .t-in, column-length 0 (start .args .nodes .now)),
-      start .pre .deficit,
-      end-room (start .pre),
+      start .pre .excess,
+      end-residual (start .pre),
     )
 
 walk-requires : tie.Need-walk-requires
@@ -31,7 +31,7 @@ charge-requires c κs =
         omega (arith, start .pre .state .wf .nodes, column-length 0 (start .args .nodes .now)),
       ),
       (
-        omega (arith, amount .ensures .spare-fits),
+        omega (arith, amount .ensures .excess-fits),
         omega (arith, amount-most (start .pre) (amount .result) (amount .ensures) .0),
       ),
     )

@@ -1,7 +1,7 @@
--- `circulation::augment::walk` meets its contract: the loop's invariant is `Walking`; the rank falls.
+-- `circulation::augment::walk` meets its contract: the loop's invariant is `Walking`; the place in the order falls.
 use Rattle.circulation.specs.inside.Search.{Pushable, Pushed}
 use Rattle.network.specs.Net.{net, at}
-use Rattle.circulation.specs.Nodes.{column, potentials, ranks, parents, rooms}
+use Rattle.circulation.specs.Nodes.{column, potentials, orders, parents, residuals}
 use Rattle.circulation.proofs.laws.Walks.{Walking, walk-start, walked, pushable, walk-next}
 use Rattle.circulation.specs.laws.Columns.{column-length}
 use lib.ListN.{length}
@@ -13,11 +13,11 @@ use Rattle.circulation.proofs.augment.walk.Tie as tie
 
 abbrev Inv-loop : tie.InvT-loop
 Inv-loop arcs flows₀ nodes s t d v₀ flows v =
-    Walking (net arcs (length flows₀)) s t d (potentials nodes) flows₀ (column 1 nodes) (ranks nodes) (parents nodes)
-    (rooms nodes) flows v
+    Walking (net arcs (length flows₀)) s t d (potentials nodes) flows₀ (column 1 nodes) (orders nodes) (parents nodes)
+    (residuals nodes) flows v
 
 abbrev μ-loop : tie.MeasureT-loop
-μ-loop arcs flows₀ nodes s t d v₀ flows v = at (ranks nodes) v
+μ-loop arcs flows₀ nodes s t d v₀ flows v = at (orders nodes) v
 
 loop-holds : tie.Need-loop-holds Inv-loop μ-loop
 loop-holds c = walk-start (c .before .before .before .pre .0) (c .before .before .before .pre .1)

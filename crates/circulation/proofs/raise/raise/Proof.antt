@@ -1,6 +1,6 @@
--- `circulation::raise::raise` meets its contract: by the rank of the node.
+-- `circulation::raise::raise` meets its contract: by whether the node is reached.
 use Rattle.circulation.specs.inside.Search.{lift}
-use Rattle.circulation.specs.Nodes.{potentials, ranks}
+use Rattle.circulation.specs.Nodes.{potentials, orders}
 use Rattle.circulation.specs.inside.Stores.{Stored}
 use Rattle.network.specs.Net.{at}
 use Rattle.circulation.proofs.laws.Columns.{stored-same}
@@ -22,10 +22,10 @@ returns : tie.Need-returns
 returns c =
     let start = c .before .before .before .before in
     stored-same 0 (start .args .v)
-    (lift (at (ranks (start .args .nodes .now)) (start .args .v))
+    (lift (at (orders (start .args .nodes .now)) (start .args .v))
     (at (potentials (start .args .nodes .now)) (start .args .v)) (start .args .d))
     (start .args .nodes .now)
-    (lift-out (at (ranks (start .args .nodes .now)) (start .args .v))
+    (lift-out (at (orders (start .args .nodes .now)) (start .args .v))
     (at (potentials (start .args .nodes .now)) (start .args .v)) (start .args .d)
     (omega (arith, c .before .get .ensures, c .if1 .taken)))
 
@@ -65,7 +65,7 @@ returns-2 c =
     subst (λ (a : ℕ). Stored 0 (start .args .v) a (start .args .nodes .now) (put .last .0))
     (ap (λ (b : ℕ). b + start .args .d) (get2 .ensures)
     ∙ sym
-    (lift-in (at (ranks (start .args .nodes .now)) (start .args .v))
+    (lift-in (at (orders (start .args .nodes .now)) (start .args .v))
     (at (potentials (start .args .nodes .now)) (start .args .v)) (start .args .d)
     (omega (arith, get .ensures, if1 .left))))
     (put .ensures)

@@ -1,4 +1,4 @@
--- `circulation::search::begin` meets its contract: ranks are cleared, and two stores reach s.
+-- `circulation::search::begin` meets its contract: the order is cleared, and two stores reach s.
 use Rattle.circulation.proofs.laws.Columns.{begun, fill-zeros}
 use mathlib.Core.Path.{_∙_}
 use native.Mathlib.Omega.{arith}

@@ -1,7 +1,7 @@
 -- `circulation::search::extend` meets its contract: the nearest arc is brought onto its kink, and its other end reached.
-use Rattle.circulation.proofs.laws.Rooms.{far-in, extended}
-use Rattle.circulation.proofs.laws.Gaps.{ready-nodes}
-use Rattle.circulation.proofs.laws.Growing.{raise-fits, crossing-room}
+use Rattle.circulation.proofs.laws.Reaching.{far-in, extended}
+use Rattle.circulation.proofs.laws.LeastStep.{ready-nodes}
+use Rattle.circulation.proofs.laws.Growing.{raise-fits, crossing-residual}
 use Rattle.circulation.specs.laws.Columns.{column-length}
 use mathlib.Core.Path.{_∙_}
 use native.Mathlib.Omega.{arith}
@@ -13,8 +13,8 @@ choose-requires c κs =
     let start = c .before .before .before .before in
     (start .pre .0 .ready, start .pre .1)
 
-gap-at-requires : tie.Need-gap-at-requires
-gap-at-requires c κs =
+step-at-requires : tie.Need-step-at-requires
+step-at-requires c κs =
     let start = c .before .before .before .before .before .before in
     (start .pre .0 .ready, c .before .choose .ensures .0)
 
@@ -25,8 +25,8 @@ raise-reached-requires c κs =
       omega (arith, start .pre .0 .ready .wf .nodes, column-length 0 (start .args .nodes .now)),
       (
         start .pre .0 .ready .p-in,
-        λ v l r. raise-fits (start .pre .0) (choose .result) (c .before .gap-at .result) (choose .ensures)
-            (c .before .gap-at .ensures .least (choose .ensures .1) .0) (crossing-room (start .pre .0) (start .pre .1)) v
+        λ v l r. raise-fits (start .pre .0) (choose .result) (c .before .step-at .result) (choose .ensures)
+            (c .before .step-at .ensures .least (choose .ensures .1) .0) (crossing-residual (start .pre .0) (start .pre .1)) v
             (omega (arith, column-length 0 (start .args .nodes .now))) r,
       ),
     )
@@ -40,8 +40,8 @@ far-requires c κs =
       choose .ensures .0,
     )
 
-room-over-requires : tie.Need-room-over-requires
-room-over-requires c κs =
+residual-over-requires : tie.Need-residual-over-requires
+residual-over-requires c κs =
     let start = c .before .before .before .before .before .before .before .before .before .before .before .before .before .before in
     let choose = c .before .before .before .before .before .before .before .before .before .choose in
     let raise-reached = c .before .before .before .before .before .raise-reached in (
@@ -55,35 +55,35 @@ room-over-requires c κs =
 add-reach : tie.Need-add-reach
 add-reach c =
     let start = c .before .before .before .before .before .before .before .before .before .before .before .before .before .before .before .before in
-    omega (arith, crossing-room (start .pre .0) (start .pre .1), start .pre .0 .ready .wf .nodes)
+    omega (arith, crossing-residual (start .pre .0) (start .pre .1), start .pre .0 .ready .wf .nodes)
 
 reach-requires : tie.Need-reach-requires
 reach-requires c κs =
     let start = c .before .before .before .before .before .before .before .before .before .before .before .before .before .before .before .before in
     let choose = c .before .before .before .before .before .before .before .before .before .before .before .choose in
-    let gap-at = c .before .before .before .before .before .before .before .before .before .gap-at in
+    let step-at = c .before .before .before .before .before .before .before .before .before .step-at in
     let raise-reached = c .before .before .before .before .before .before .before .raise-reached in
     let far = c .before .before .before .far in (
       omega (
         arith,
-        far-in (start .pre .0) (choose .result) (gap-at .result) (choose .ensures)
-            (gap-at .ensures .least (choose .ensures .1) .0) (raise-reached .last .0) (raise-reached .ensures .0)
-            (raise-reached .ensures .1) (far .result) (far .ensures .0) (far .ensures .1) (c .before .room-over .result)
-            (c .before .room-over .ensures .0),
+        far-in (start .pre .0) (choose .result) (step-at .result) (choose .ensures)
+            (step-at .ensures .least (choose .ensures .1) .0) (raise-reached .last .0) (raise-reached .ensures .0)
+            (raise-reached .ensures .1) (far .result) (far .ensures .0) (far .ensures .1) (c .before .residual-over .result)
+            (c .before .residual-over .ensures .0),
         raise-reached .ensures .1 .length-same,
       ),
       omega (
         arith,
-        far-in (start .pre .0) (choose .result) (gap-at .result) (choose .ensures)
-            (gap-at .ensures .least (choose .ensures .1) .0) (raise-reached .last .0) (raise-reached .ensures .0)
-            (raise-reached .ensures .1) (far .result) (far .ensures .0) (far .ensures .1) (c .before .room-over .result)
-            (c .before .room-over .ensures .0),
+        far-in (start .pre .0) (choose .result) (step-at .result) (choose .ensures)
+            (step-at .ensures .least (choose .ensures .1) .0) (raise-reached .last .0) (raise-reached .ensures .0)
+            (raise-reached .ensures .1) (far .result) (far .ensures .0) (far .ensures .1) (c .before .residual-over .result)
+            (c .before .residual-over .ensures .0),
         start .pre .0 .ready .wf .nodes,
         column-length 0 (start .args .nodes .now),
       ),
-      omega (arith, crossing-room (start .pre .0) (start .pre .1), start .pre .0 .ready .wf .nodes),
+      omega (arith, crossing-residual (start .pre .0) (start .pre .1), start .pre .0 .ready .wf .nodes),
       omega (arith, choose .ensures .0, start .pre .0 .ready .wf .few),
-      c .before .room-over .ensures .1,
+      c .before .residual-over .ensures .1,
     )
 
 same-length : tie.Need-same-length
@@ -96,25 +96,25 @@ returns : tie.Need-returns
 returns c =
     let start = c .before .before .before .before .before .before .before .before .before .before .before .before .before .before .before .before .before .before .before in
     let choose = c .before .before .before .before .before .before .before .before .before .before .before .before .before .before .choose in
-    let gap-at = c .before .before .before .before .before .before .before .before .before .before .before .before .gap-at in
+    let step-at = c .before .before .before .before .before .before .before .before .before .before .before .before .step-at in
     let raise-reached = c .before .before .before .before .before .before .before .before .before .before .raise-reached in
     let far = c .before .before .before .before .before .before .far in
-    let room-over = c .before .before .before .before .room-over in
+    let residual-over = c .before .before .before .before .residual-over in
     let reach = c .before .before .reach in
-    extended (start .pre .0) (choose .result) (gap-at .result) (choose .ensures)
-    (gap-at .ensures .least (choose .ensures .1) .0) (raise-reached .last .0) (raise-reached .ensures .0)
-    (raise-reached .ensures .1) (far .result) (far .ensures .0) (far .ensures .1) (room-over .result)
-    (room-over .ensures .0) (reach .last .0) (reach .ensures)
+    extended (start .pre .0) (choose .result) (step-at .result) (choose .ensures)
+    (step-at .ensures .least (choose .ensures .1) .0) (raise-reached .last .0) (raise-reached .ensures .0)
+    (raise-reached .ensures .1) (far .result) (far .ensures .0) (far .ensures .1) (residual-over .result)
+    (residual-over .ensures .0) (reach .last .0) (reach .ensures)
 
 pub extend-spec : {M : Type 1} → statement M
 extend-spec =
     tie.close
     (tie.spec
     choose-requires
-    gap-at-requires
+    step-at-requires
     raise-reached-requires
     far-requires
-    room-over-requires
+    residual-over-requires
     add-reach
     reach-requires
     same-length

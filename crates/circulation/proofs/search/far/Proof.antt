@@ -1,4 +1,4 @@
--- `circulation::search::far` meets its contract: by the rank of the head.
+-- `circulation::search::far` meets its contract: by whether the head is reached.
 use native.Mathlib.Omega.{arith}
 use borrow.Author.Needs.{needs}
 use Rattle.circulation.proofs.search.far.Statement.{statement}

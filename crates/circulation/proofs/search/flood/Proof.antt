@@ -1,11 +1,11 @@
 -- `circulation::search::flood` meets its contract: the loop's invariant is `GrownAt`; the count of nodes left falls.
 use Rattle.circulation.specs.inside.Steps.{GrownAt}
-use Rattle.circulation.specs.Nodes.{size, potentials, ranks, parents, rooms, node-stride}
+use Rattle.circulation.specs.Nodes.{size, potentials, orders, parents, residuals, node-stride}
 use Rattle.network.specs.Net.{net}
 use Rattle.circulation.specs.Input.{Rooted}
 use Rattle.circulation.proofs.laws.Floods.{flood-crosses, flood-whole}
 use Rattle.circulation.proofs.laws.Searches.{begin-grown}
-use Rattle.circulation.proofs.laws.Rooms.{new-there}
+use Rattle.circulation.proofs.laws.Reaching.{new-there}
 use Rattle.circulation.specs.laws.Columns.{column-length}
 use lib.ListN.{length}
 use mathlib.Core.Path.{_≡_, refl, subst, sym, ap, _∙_}
@@ -46,8 +46,8 @@ loop-holds c =
     let start = c .before .before .before .before .before .before .before .before .before in
     let count-of = c .before .before .before .before .count-of in
     let begin = c .before .before .begin in (
-      begin-grown (potentials (begin .last .0)) (start .args .flows .now) (ranks (begin .last .0))
-          (parents (begin .last .0)) (rooms (begin .last .0)) (count-of .result - 1)
+      begin-grown (potentials (begin .last .0)) (start .args .flows .now) (orders (begin .last .0))
+          (parents (begin .last .0)) (residuals (begin .last .0)) (count-of .result - 1)
           (omega (
             arith,
             count-of .ensures,
@@ -62,7 +62,7 @@ loop-holds c =
           (omega (arith, column-length 0 (begin .last .0), column-length 2 (begin .last .0)))
           (omega (arith, column-length 0 (begin .last .0), column-length 3 (begin .last .0)))
           (omega (arith, column-length 0 (begin .last .0), column-length 4 (begin .last .0))) (begin .ensures .root)
-          (begin .ensures .alone) (omega (arith, begin .ensures .root-room)),
+          (begin .ensures .alone) (omega (arith, begin .ensures .root-residual)),
       refl,
       omega (arith, count-of .ensures, column-length 0 (start .args .nodes .now), start .pre .0 .wf .some),
     )

@@ -1,5 +1,5 @@
--- `circulation::search::source` meets its contract: the nodes from v on need nothing.
-use Rattle.circulation.specs.Nodes.{column, node-stride, need-zero}
+-- `circulation::search::source` meets its contract: the nodes from v on have no deficit.
+use Rattle.circulation.specs.Nodes.{column, node-stride, deficit-zero}
 use Rattle.network.specs.Net.{at}
 use lib.ListN.{length}
 use native.Mathlib.Decide.{ℕ-discrete}
@@ -13,7 +13,7 @@ use Rattle.circulation.proofs.search.source.Tie as tie
 abbrev Inv-loop : tie.InvT-loop
 Inv-loop nodes v₀ v =
     (v ≤ length nodes / node-stride)
-    × ((k : ℕ) → v ≤ k → k < length nodes / node-stride → at (column 1 nodes) k ≤ need-zero)
+    × ((k : ℕ) → v ≤ k → k < length nodes / node-stride → at (column 1 nodes) k ≤ deficit-zero)
 
 abbrev μ-loop : tie.MeasureT-loop
 μ-loop nodes v₀ v = v

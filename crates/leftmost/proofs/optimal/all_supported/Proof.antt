@@ -1,7 +1,7 @@
 -- `leftmost::optimal::all_supported` meets its contract: the nodes before v are supported.
 use Rattle.leftmost.proofs.laws.Shown.{shown-past}
 use Rattle.circulation.specs.inside.Optimal.{Support}
-use Rattle.circulation.specs.Nodes.{potentials, ranks, size}
+use Rattle.circulation.specs.Nodes.{potentials, orders, size}
 use Rattle.network.specs.Net.{at, net}
 use borrow.Author.Count.{below-none, below-more}
 use lib.ListN.{length}
@@ -16,7 +16,7 @@ abbrev Inv-loop : tie.InvT-loop
 Inv-loop arcs flows nodes ground v₀ v =
     (v ≤ ground)
     × (ground ≡ size nodes - 1)
-    × ((k : ℕ) → k < v → Support (net arcs (length flows)) (at (potentials nodes)) (at flows) (at (ranks nodes)) k)
+    × ((k : ℕ) → k < v → Support (net arcs (length flows)) (at (potentials nodes)) (at flows) (at (orders nodes)) k)
 
 abbrev μ-loop : tie.MeasureT-loop
 μ-loop arcs flows nodes ground v₀ v = ground - v

@@ -1,5 +1,5 @@
--- `leftmost::optimal::level` meets its contract: the nodes before v need nothing.
-use Rattle.circulation.specs.Nodes.{need-zero, needs as needs-of, size}
+-- `leftmost::optimal::level` meets its contract: the nodes before v are level.
+use Rattle.circulation.specs.Nodes.{deficit-zero, deficits, size}
 use Rattle.network.specs.Net.{at}
 use borrow.Author.Count.{below-none, below-more}
 use Prim.Native.Nat.{ℕ, _≤_, _<_, _-_}
@@ -10,7 +10,7 @@ use Rattle.leftmost.proofs.optimal.level.Statement.{statement}
 use Rattle.leftmost.proofs.optimal.level.Tie as tie
 
 abbrev Inv-loop : tie.InvT-loop
-Inv-loop nodes n v₀ v = (v ≤ n) × (n ≡ size nodes) × ((k : ℕ) → k < v → at (needs-of nodes) k ≡ need-zero)
+Inv-loop nodes n v₀ v = (v ≤ n) × (n ≡ size nodes) × ((k : ℕ) → k < v → at (deficits nodes) k ≡ deficit-zero)
 
 abbrev μ-loop : tie.MeasureT-loop
 μ-loop nodes n v₀ v = n - v

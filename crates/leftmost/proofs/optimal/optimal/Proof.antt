@@ -45,8 +45,8 @@ same-length-3 c = search needs
 returns-3 : tie.Need-returns-3
 returns-3 c = search needs
 
-count-need-requires : tie.Need-count-need-requires
-count-need-requires c κs =
+count-deficits-requires : tie.Need-count-deficits-requires
+count-deficits-requires c κs =
     let start = c .before .before .before .before .before .before .before .before .before .before .before .before .before .before in
     let all-fit = c .before .before .before .before .before .all-fit in
     let if2 = c .before .before .before .before .if2 in
@@ -67,14 +67,14 @@ returns-4 c =
     let if2 = c .before .before .before .before .before .before .before .before .before .if2 in
     let all-supported = c .before .before .before .before .before .before .before .all-supported in
     let if3 = c .before .before .before .before .before .before .if3 in
-    let count-need = c .before .before .before .before .count-need in
+    let count-deficits = c .before .before .before .before .count-deficits in
     let level = c .level in
     shown-map
-    (passes (start .args .flows .now) (start .args .nodes .now) (count-need .last .1 .1 .0)
+    (passes (start .args .flows .now) (start .args .nodes .now) (count-deficits .last .1 .1 .0)
     (tested-yes (low-start .result) (low-start .ensures) (not-false (low-start .result) (if1 .left)))
     (shown-past (all-fit .result) (all-fit .ensures) (if2 .left))
     (shown-past (all-supported .result) (all-supported .ensures) (if3 .left))
-    (count-need .ensures .0) (count-need .ensures .1))
+    (count-deficits .ensures .0) (count-deficits .ensures .1))
     (level .result) (level .ensures)
 
 pub optimal-spec : {M : Type 1} → statement M
@@ -91,7 +91,7 @@ optimal-spec =
     all-supported-requires
     same-length-3
     returns-3
-    count-need-requires
+    count-deficits-requires
     level-requires
     same-length-4
     returns-4)

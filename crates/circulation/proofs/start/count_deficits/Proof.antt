@@ -1,4 +1,4 @@
--- `circulation::start::count_need` meets its contract: the loop's invariant is `Counting`.
+-- `circulation::start::count_deficits` meets its contract: the loop's invariant is `Counting`.
 use Rattle.circulation.specs.Nodes.{column, node-stride}
 use Rattle.circulation.specs.inside.Stores.{Apart}
 use Rattle.network.specs.Net.{net}
@@ -12,8 +12,8 @@ use Prim.Native.Nat.{_-_, _/_, _≤_, _<_}
 use Rattle.network.specs.Limits.{most-nodes}
 use native.Mathlib.Omega.{arith}
 use borrow.Author.Needs.{needs}
-use Rattle.circulation.proofs.start.count_need.Statement.{statement}
-use Rattle.circulation.proofs.start.count_need.Tie as tie
+use Rattle.circulation.proofs.start.count_deficits.Statement.{statement}
+use Rattle.circulation.proofs.start.count_deficits.Tie as tie
 
 abbrev Inv-loop : tie.InvT-loop
 Inv-loop arcs flows nodes₀ i₀ nodes i =
@@ -161,8 +161,8 @@ returns c =
       apart-join (fill .ensures .1) (c .before .loop .inv .1),
     )
 
-pub count-need-spec : {M : Type 1} → statement M
-count-need-spec =
+pub count-deficits-spec : {M : Type 1} → statement M
+count-deficits-spec =
     tie.close
     (tie.spec
     Inv-loop

@@ -1,10 +1,10 @@
--- `circulation::gap::on_kink` meets its contract: an arc is answered only where its step is 0.
+-- `circulation::step::on_kink` meets its contract: an arc is answered only where its step is 0.
 use lib.ListN.{length}
 use Prim.Native.Nat.{_-_}
 use native.Mathlib.Omega.{arith}
 use borrow.Author.Needs.{needs}
-use Rattle.circulation.proofs.gap.on_kink.Statement.{statement}
-use Rattle.circulation.proofs.gap.on_kink.Tie as tie
+use Rattle.circulation.proofs.step.on_kink.Statement.{statement}
+use Rattle.circulation.proofs.step.on_kink.Tie as tie
 
 abbrev Inv-loop : tie.InvT-loop
 Inv-loop arcs flows nodes start i₀ i = Unit {0}
@@ -15,11 +15,11 @@ abbrev μ-loop : tie.MeasureT-loop
 loop-holds : tie.Need-loop-holds Inv-loop μ-loop
 loop-holds c = tt
 
-gap-at-requires : tie.Need-gap-at-requires Inv-loop μ-loop
-gap-at-requires c κs = (c .before .before .before .before .before .pre, c .loop-test .taken)
+step-at-requires : tie.Need-step-at-requires Inv-loop μ-loop
+step-at-requires c κs = (c .before .before .before .before .before .pre, c .loop-test .taken)
 
 returns : tie.Need-returns Inv-loop μ-loop
-returns c = λ l. rw (c .if1 .taken) at (c .before .gap-at .ensures)
+returns c = λ l. rw (c .if1 .taken) at (c .before .step-at .ensures)
 
 add-i : tie.Need-add-i Inv-loop μ-loop
 add-i c = search needs
@@ -40,7 +40,7 @@ on-kink-spec =
     Inv-loop
     μ-loop
     loop-holds
-    gap-at-requires
+    step-at-requires
     returns
     add-i
     loop-less

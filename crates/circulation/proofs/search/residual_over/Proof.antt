@@ -1,10 +1,10 @@
--- `circulation::search::room_over` meets its contract: by the end of the arc that v is.
-use Rattle.circulation.proofs.laws.Rooms.{room-up, room-down, high-top}
+-- `circulation::search::residual_over` meets its contract: by the end of the arc that v is.
+use Rattle.circulation.proofs.laws.Reaching.{residual-up, residual-down, high-top}
 use mathlib.Core.Path.{sym, _∙_}
 use native.Mathlib.Omega.{arith}
 use borrow.Author.Needs.{needs}
-use Rattle.circulation.proofs.search.room_over.Statement.{statement}
-use Rattle.circulation.proofs.search.room_over.Tie as tie
+use Rattle.circulation.proofs.search.residual_over.Statement.{statement}
+use Rattle.circulation.proofs.search.residual_over.Tie as tie
 
 flow-of-requires : tie.Need-flow-of-requires
 flow-of-requires c κs = search needs
@@ -31,7 +31,7 @@ returns c =
     let tail-of = c .before .before .before .before .tail-of in
     let if1 = c .before .before .before .if1 in
     let high-of = c .before .before .high-of in (
-      room-up (c .least .ensures) (sym (tail-of .ensures) ∙ if1 .taken) (omega (arith, flow-of .ensures, high-of .ensures))
+      residual-up (c .least .ensures) (sym (tail-of .ensures) ∙ if1 .taken) (omega (arith, flow-of .ensures, high-of .ensures))
           (c .before .at-head .ensures),
       omega (arith, c .least .ensures .0, flow-of .ensures, high-of .ensures, high-top (start .pre .1 .1 .1) (start .pre .1 .0)),
     )
@@ -55,7 +55,7 @@ returns-2 c =
     let tail-of = c .before .before .before .before .tail-of in
     let if1 = c .before .before .before .if1 in
     let low-of = c .before .before .low-of in (
-      room-down (c .least2 .ensures) (λ is. if1 .left (tail-of .ensures ∙ is)) (omega (arith, flow-of .ensures, low-of .ensures))
+      residual-down (c .least2 .ensures) (λ is. if1 .left (tail-of .ensures ∙ is)) (omega (arith, flow-of .ensures, low-of .ensures))
           (c .before .at-tail .ensures),
       omega (
         arith,
@@ -67,8 +67,8 @@ returns-2 c =
       ),
     )
 
-pub room-over-spec : {M : Type 1} → statement M
-room-over-spec =
+pub residual-over-spec : {M : Type 1} → statement M
+residual-over-spec =
     tie.close
     (tie.spec
     flow-of-requires

@@ -1,9 +1,9 @@
--- `circulation::gap::gap_at` meets its contract: by the ends that are reached.
-use Rattle.circulation.proofs.laws.Gaps.{ready-nodes, sides-small, entering, leaving, both-in, both-out}
+-- `circulation::step::step_at` meets its contract: by the ends that are reached.
+use Rattle.circulation.proofs.laws.LeastStep.{ready-nodes, sides-small, entering, leaving, both-in, both-out}
 use native.Mathlib.Omega.{arith}
 use borrow.Author.Needs.{needs}
-use Rattle.circulation.proofs.gap.gap_at.Statement.{statement}
-use Rattle.circulation.proofs.gap.gap_at.Tie as tie
+use Rattle.circulation.proofs.step.step_at.Statement.{statement}
+use Rattle.circulation.proofs.step.step_at.Tie as tie
 
 stands-at-requires : tie.Need-stands-at-requires
 stands-at-requires c κs =
@@ -83,8 +83,8 @@ returns-4 c =
     (omega (arith, at-head .ensures, c .before .before .before .if1 .left))
     (rw (stands-at .ensures, asks-at .ensures, flow-of .ensures, c .before .low-of .ensures) at (c .distance2 .ensures))
 
-pub gap-at-spec : {M : Type 1} → statement M
-gap-at-spec =
+pub step-at-spec : {M : Type 1} → statement M
+step-at-spec =
     tie.close
     (tie.spec
     stands-at-requires

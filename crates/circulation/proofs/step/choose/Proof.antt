@@ -1,10 +1,10 @@
--- `circulation::gap::choose` meets its contract: an arc on its kink is nearest; else the scan finds one.
+-- `circulation::step::choose` meets its contract: an arc on its kink is nearest; else the scan finds one.
 use Rattle.network.specs.Net.{at, net}
-use Rattle.circulation.specs.Nodes.{potentials, ranks}
-use Rattle.circulation.proofs.laws.Gaps.{near-zero}
+use Rattle.circulation.specs.Nodes.{potentials, orders}
+use Rattle.circulation.proofs.laws.LeastStep.{near-zero}
 use lib.ListN.{length}
-use Rattle.circulation.proofs.gap.choose.Statement.{statement}
-use Rattle.circulation.proofs.gap.choose.Tie as tie
+use Rattle.circulation.proofs.step.choose.Statement.{statement}
+use Rattle.circulation.proofs.step.choose.Tie as tie
 
 on-kink-requires : tie.Need-on-kink-requires
 on-kink-requires c κs = c .before .before .before .pre .0
@@ -14,7 +14,7 @@ returns c =
     let start = c .before .before .before .before .before in
     let on-kink = c .before .on-kink in
     near-zero (net (start .args .arcs .now) (length (start .args .flows .now)))
-    (at (potentials (start .args .nodes .now))) (at (start .args .flows .now)) (at (ranks (start .args .nodes .now)))
+    (at (potentials (start .args .nodes .now))) (at (start .args .flows .now)) (at (orders (start .args .nodes .now)))
     (on-kink .result) (c .if1 .taken) (on-kink .ensures (c .if1 .taken))
 
 nearest-requires : tie.Need-nearest-requires

@@ -1,7 +1,7 @@
--- The gap of an arc is the step at which it lets a node be reached, and a scan finds the least: case by case on which end
+-- The step of an arc is how far the reached nodes rise until it lets a node be reached, and a scan finds the least: case by case on which end
 -- is reached.
 use Rattle.network.specs.Net.{at, Net, arcs, tail, head, asks, stands}
-use Rattle.circulation.specs.inside.Search.{Enters, Leaves, Distance, never, Gap, GapAt, Crosses, Crossing, step}
+use Rattle.circulation.specs.inside.Search.{Enters, Leaves, Distance, never, StepBy, StepAt, Crosses, Crossing, step}
 use Rattle.circulation.specs.inside.Slackness.{Ready}
 use Rattle.circulation.specs.Nodes.{potentials, size}
 use Rattle.circulation.specs.laws.Columns.{column-length}
@@ -30,44 +30,44 @@ sides-small {N} {i = i} r l = (
 
 module _ {a b h t x l c : ℕ} where
   -- an arc that does not cross has no step
-  no-step : (Enters a b h t x l c → ⊥) → (Leaves a b h t x l c → ⊥) → Gap a b h t x l c never
+  no-step : (Enters a b h t x l c → ⊥) → (Leaves a b h t x l c → ⊥) → StepBy a b h t x l c never
   no-step not-enters not-leaves = record {
     some = λ l. absurd (omega arith);
     least = ⊎-elim (λ l. absurd (not-enters l)) (λ e. absurd (not-leaves e));
   }
 
   -- the step of an arc whose head is reached
-  pub entering : {r : ℕ} → 0 < h → t ≡ 0 → Distance a b x c r → Gap a b h t x l c r
+  pub entering : {r : ℕ} → 0 < h → t ≡ 0 → Distance a b x c r → StepBy a b h t x l c r
   entering from to d = record {
     some =
         λ few. (
-          inl (record { from = from; to = to; slack = d .some few .0; room = d .some few .1 }),
+          inl (record { from = from; to = to; slack = d .some few .0; residual = d .some few .1 }),
           omega (arith, d .some few .0, d .some few .2),
         );
     least =
-        ⊎-elim (λ e. (omega (arith, e .slack, d .least (e .slack) (e .room) .0), d .least (e .slack) (e .room) .1))
+        ⊎-elim (λ e. (omega (arith, e .slack, d .least (e .slack) (e .residual) .0), d .least (e .slack) (e .residual) .1))
         (λ e. absurd (omega (arith, e .to)));
   }
 
   -- the step of an arc whose tail is reached
-  pub leaving : {r : ℕ} → 0 < t → h ≡ 0 → Distance b a l x r → Gap a b h t x l c r
+  pub leaving : {r : ℕ} → 0 < t → h ≡ 0 → Distance b a l x r → StepBy a b h t x l c r
   leaving from to d = record {
     some =
         λ few. (
-          inr (record { from = from; to = to; slack = d .some few .0; room = d .some few .1 }),
+          inr (record { from = from; to = to; slack = d .some few .0; residual = d .some few .1 }),
           omega (arith, d .some few .0, d .some few .2),
         );
     least =
         ⊎-elim (λ e. absurd (omega (arith, e .from)))
-        (λ e. (omega (arith, e .slack, d .least (e .slack) (e .room) .0), d .least (e .slack) (e .room) .1));
+        (λ e. (omega (arith, e .slack, d .least (e .slack) (e .residual) .0), d .least (e .slack) (e .residual) .1));
   }
 
   -- an arc between reached nodes has none
-  pub both-in : 0 < h → 0 < t → Gap a b h t x l c never
+  pub both-in : 0 < h → 0 < t → StepBy a b h t x l c never
   both-in of-head of-tail = no-step (λ e. omega (arith, e .to)) (λ e. omega (arith, e .to))
 
   -- nor has one between other nodes
-  pub both-out : h ≡ 0 → t ≡ 0 → Gap a b h t x l c never
+  pub both-out : h ≡ 0 → t ≡ 0 → StepBy a b h t x l c never
   both-out of-head of-tail = no-step (λ e. omega (arith, e .from)) (λ e. omega (arith, e .from))
 
 -- among the first i arcs, arc has the least step, best; never where none crosses
@@ -82,7 +82,7 @@ module _ {N : Net} {p x order : ℕ → ℕ} where
   pub seek-start : Seeking N p x order never 0 0
   seek-start = record { in-list = omega arith; top = omega arith; found = λ l. absurd (omega arith); least = below-none _ }
 
-  module _ {best arc i r : ℕ} (s : Seeking N p x order best arc i) (l : i < arcs N) (g : GapAt N p x order i r) where
+  module _ {best arc i r : ℕ} (s : Seeking N p x order best arc i) (l : i < arcs N) (g : StepAt N p x order i r) where
     -- arc i has a lesser step
     pub seek-take : r < best → Seeking N p x order r i (i + 1)
     seek-take less = record {
@@ -117,5 +117,5 @@ module _ {N : Net} {p x order : ℕ → ℕ} where
       go (no none) = absurd (some (λ j l w. omega (arith, s .least j (omega arith) w .1)))
 
 -- an arc that crosses on its kink is nearest
-pub near-zero : (N : Net) (p x order : ℕ → ℕ) (i : ℕ) → i < arcs N → GapAt N p x order i 0 → Nearest N (arcs N) p x order i
+pub near-zero : (N : Net) (p x order : ℕ → ℕ) (i : ℕ) → i < arcs N → StepAt N p x order i 0 → Nearest N (arcs N) p x order i
 near-zero N p x order i l g = (l, g .some (omega arith) .0, λ j j-in w. omega (arith, g .some (omega arith) .1))
