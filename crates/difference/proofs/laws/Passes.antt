@@ -1,9 +1,12 @@
 -- The constraints of one arc, and of all arcs in one pass: each arc takes `Passing` one further, in whichever direction.
-use Rattle.network.specs.Net.{at, Net, arcs, tail, head, kink, HardHigh, HardLow}
+use Rattle.network.specs.Net.{at, Net, arcs, tail, head, kink, low, high}
 use Rattle.difference.specs.inside.Constraints.{MetHigh, MetLow, Met, AllMet, Ready, Relaxing}
 use Rattle.difference.specs.inside.Steps.{RelaxMeans, Stepped, join}
 use Rattle.difference.specs.declared.Found.{Found}
-use mathlib.Core.Path.{_≡_, refl}
+use mathlib.Core.Path.{_≡_, refl, sym, _∙_}
+use mathlib.Core.Bool.{Bool}
+use lib.Dec.{eqb}
+use borrow.Author.Tests.{eq-eqb, eqb-true}
 use mathlib.Core.Logic.{inl}
 use mathlib.Core.List.{List}
 use Prim.Native.Nat.{ℕ, _≤_, _<_}
@@ -11,9 +14,9 @@ use native.Mathlib.Omega.{arith}
 use native.Mathlib.Decide.{ℕ-discrete}
 use Rattle.difference.specs.declared.Found.the-variants.{Same, Stuck}
 use Rattle.difference.proofs.laws.Steps.{Monotone, relaxed, nothing, stepped-map, stuck-any, not-stuck, joined}
-use Rattle.network.specs.Packed.{kink-zero}
+use Rattle.network.specs.Packed.{kink-zero, high-none, low-none}
 
-module _ {N : Net} {v : List ℕ} {i : ℕ} (r : Ready N v) (l : i < arcs N) (t h k : ℕ) (et : t ≡ tail N i) (eh : h ≡ head N i) (ek : k ≡ kink N i) where
+module _ {N : Net} {v : List ℕ} {i : ℕ} (r : Ready N v) (l : i < arcs N) {t h k : ℕ} (et : t ≡ tail N i) (eh : h ≡ head N i) (ek : k ≡ kink N i) where
   -- what the step of the tail needs
   pub tail-relaxing : Relaxing v h t kink-zero k
   tail-relaxing = record {
@@ -39,14 +42,16 @@ module _ {N : Net} {v : List ℕ} {i : ℕ} (r : Ready N v) (l : i < arcs N) (t 
   }
 
   -- the constraint of an unlimited high
-  pub tail-raised : HardHigh N i → (v′ : List ℕ) (f : Found) → RelaxMeans h t kink-zero k v v′ f → Stepped (MetHigh N i) N v v′ f
-  tail-raised hard v′ f m =
-      stepped-map (λ le same-hard. le) f (relaxed r (head N i) (tail N i) kink-zero (kink N i) (r .wf .arc-in i l .head-in) (r .wf .arc-in i l .tail-in) (λ q s. s .meets i l .0 hard) v′ f (rw (et, eh, ek) at m))
+  pub tail-raised : {asked : Bool} → asked ≡ eqb (high N i) high-none → (v′ : List ℕ) (f : Found) → RelaxMeans asked h t kink-zero k v v′ f → Stepped (MetHigh N i) N v v′ f
+  tail-raised {asked} is v′ f m =
+      stepped-map (λ met hard. rw (eh, et, ek) at (met (is ∙ eq-eqb _ _ hard))) f
+      (relaxed r asked tail-relaxing (λ yes q s. rw (eh, et, ek) (s .meets i l .0 (eqb-true _ _ (sym is ∙ yes)))) v′ f m)
 
   -- the constraint of an unlimited low
-  pub head-raised : HardLow N i → (v′ : List ℕ) (f : Found) → RelaxMeans t h k kink-zero v v′ f → Stepped (MetLow N i) N v v′ f
-  head-raised hard v′ f m =
-      stepped-map (λ le same-hard. le) f (relaxed r (tail N i) (head N i) (kink N i) kink-zero (r .wf .arc-in i l .tail-in) (r .wf .arc-in i l .head-in) (λ q s. s .meets i l .1 hard) v′ f (rw (et, eh, ek) at m))
+  pub head-raised : {asked : Bool} → asked ≡ eqb (low N i) low-none → (v′ : List ℕ) (f : Found) → RelaxMeans asked t h k kink-zero v v′ f → Stepped (MetLow N i) N v v′ f
+  head-raised {asked} is v′ f m =
+      stepped-map (λ met hard. rw (eh, et, ek) at (met (is ∙ eq-eqb _ _ hard))) f
+      (relaxed r asked head-relaxing (λ yes q s. rw (eh, et, ek) (s .meets i l .1 (eqb-true _ _ (sym is ∙ yes)))) v′ f m)
 
 -- a met constraint stays met
 high-mono : (N : Net) (i : ℕ) → Monotone (MetHigh N i)

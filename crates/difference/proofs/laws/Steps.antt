@@ -2,11 +2,12 @@
 -- asks of a solution.
 use Rattle.network.specs.Net.{at, Net}
 use Rattle.network.specs.laws.SumsTo.{at-set}
-use Rattle.difference.specs.inside.Constraints.{Solution, Ready, Risen, Grew, None}
+use Rattle.difference.specs.inside.Constraints.{Solution, Ready, Relaxing, Risen, Grew, None}
 use Rattle.difference.specs.inside.Steps.{RelaxMeans, Told, Stepped, join}
 use Rattle.difference.specs.declared.Found.{Found}
 use mathlib.Core.Path.{_≡_, refl, ap, _∙_}
 use mathlib.Core.Logic.{_⊎_, inl, inr, ⊎-elim}
+use mathlib.Core.Bool.{Bool, true}
 use mathlib.Core.List.{List}
 use Prim.Native.Nat.{ℕ, _+_, _-_, _≤_, _<_}
 use native.Mathlib.Nat.{le-refl}
@@ -66,17 +67,20 @@ module _ {N : Net} {v : List ℕ} (r : Ready N v) (from to a b : ℕ) (from-in :
           let d = bounded (r .wf) q s in
           omega (arith, past (omega arith), asks (d .q) (d .solution), r .under (d .q) (d .solution) from from-in, d .small to to-in, r .wf .nodes)
 
-  -- what a constraint's step tells
-  pub relaxed : (v′ : List ℕ) (f : Found) → RelaxMeans from to a b v v′ f → Stepped (λ f g. f from + a ≤ g to + b) N v v′ f
-  relaxed v′ Same m = rw (m .0) (nothing r (m .1))
-  relaxed v′ Changed m = rw (m .0) (record {
-    risen = raised (m .1) (m .2) (m .3);
-    told = (record { node = to; node-in = to-in; rose = omega (arith, here) }, omega (arith, here));
-  })
-    where
-      here : at (set v to (at v from + a - b)) to ≡ at v from + a - b
-      here = getD-set-same v to (at v from + a - b) 0 to-in
-  relaxed v′ Stuck m = rw (m .0) (record { risen = risen-same r; told = stuck (m .1) (m .2) })
+-- what a constraint's step tells, where it is asked of every solution
+pub relaxed : {N : Net} {v : List ℕ} (r : Ready N v) (asked : Bool) {from to a b : ℕ} (s : Relaxing v from to a b)
+    → (asked ≡ true → (q : ℕ → ℕ) → Solution N (length v) q → q from + a ≤ q to + b)
+    → (v′ : List ℕ) (f : Found) → RelaxMeans asked from to a b v v′ f
+    → Stepped (λ f g. asked ≡ true → f from + a ≤ g to + b) N v v′ f
+relaxed r asked s asks v′ Same m = rw (m .0) (nothing r (m .1))
+relaxed {v = v} r asked {from} {to} {a} {b} s asks v′ Changed m = rw (m .1) (record {
+  risen = raised r from to a b (s .from-in) (s .to-in) (asks (m .0)) (m .2) (m .3) (m .4);
+  told = (record { node = to; node-in = s .to-in; rose = omega (arith, here) }, λ is. omega (arith, here));
+})
+  where
+    here : at (set v to (at v from + a - b)) to ≡ at v from + a - b
+    here = getD-set-same v to (at v from + a - b) 0 (s .to-in)
+relaxed r asked {from} {to} {a} {b} s asks v′ Stuck m = rw (m .1) (record { risen = risen-same r; told = stuck r from to a b (s .from-in) (s .to-in) (asks (m .0)) (m .2) (m .3) })
 
 -- constraints that hold still where the values that force were smaller and the values that are raised greater
 pub record Monotone (M : (ℕ → ℕ) → (ℕ → ℕ) → Type 0) : Type 0 where
