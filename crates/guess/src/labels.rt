@@ -5,6 +5,8 @@ use crate::layout::DEFICIT_ZERO;
 use crate::layout::ENTRY_NODE;
 use crate::layout::EPOCH;
 use crate::layout::FIRST;
+use crate::layout::HIDDEN;
+use crate::layout::HIDDEN_POTENTIAL;
 use crate::layout::LABEL;
 use crate::layout::LABELLED;
 use crate::layout::LOOKED;
@@ -33,14 +35,29 @@ use network::layout::KINK_ZERO;
 
 // Node w is reached. Answers it where it has an excess, else NONE.
 pub fn reach(nodes: &mut [u32], room: &mut [u32], w: u32) -> u32 {
-    let epoch = read(room, EPOCH);
-    set_node(nodes, w, MARK, narrow(epoch as usize + 1));
+    hide(nodes, w);
     push(room, OPEN, w);
     push(room, REACHED, w);
     if of_node(nodes, w, DEFICIT) < DEFICIT_ZERO {
         return w;
     }
     NONE
+}
+
+// Hides the potential of node w, which is reached.
+fn hide(nodes: &mut [u32], w: u32) {
+    set_node(nodes, w, HIDDEN_POTENTIAL, of_node(nodes, w, POTENTIAL));
+    set_node(nodes, w, POTENTIAL, HIDDEN);
+}
+
+// Shows the potential of node w, which was reached.
+pub fn show(nodes: &mut [u32], w: u32) {
+    set_node(nodes, w, POTENTIAL, of_node(nodes, w, HIDDEN_POTENTIAL));
+}
+
+// Whether node w is reached.
+fn is_reached(nodes: &[u32], w: u32) -> bool {
+    of_node(nodes, w, POTENTIAL) == HIDDEN
 }
 
 // Labels the nodes beside the reached ones.
@@ -69,13 +86,13 @@ fn label_from(arcs: &[u32], flows: &[u32], nodes: &mut [u32], room: &mut [u32], 
 fn look(arcs: &[u32], flows: &[u32], nodes: &mut [u32], room: &mut [u32], u: u32, entry: u32) {
     let w = entry / ENTRY_NODE;
     let i = entry % ENTRY_NODE / 2;
-    if of_node(nodes, w, MARK) == narrow(read(room, EPOCH) as usize + 1) {
+    if is_reached(nodes, w) {
         return;
     }
     if read(flows, i as usize) == limit_of(arcs, i, entry % 2) {
         return;
     }
-    let stands = of_node(nodes, u, POTENTIAL) as usize + KINK_ZERO;
+    let stands = of_node(nodes, u, HIDDEN_POTENTIAL) as usize + KINK_ZERO;
     let asks = of_node(nodes, w, POTENTIAL) as usize + ahead(kink_of(arcs, i), entry % 2) as usize;
     if asks < stands {
         return;
@@ -111,15 +128,14 @@ fn lower(nodes: &mut [u32], w: u32, parent: u32, risen: u32) {
 
 // The least label of a node that is not reached, NONE where there is none; the nodes that are reached leave the stack.
 pub fn least_label(nodes: &[u32], room: &mut [u32]) -> u32 {
-    let epoch = read(room, EPOCH);
     let count = height(room, LABELLED);
     let mut least = NONE;
     let mut kept: u32 = 0;
     let mut j: u32 = 0;
     while j < count {
         let w = nth(room, LABELLED, j);
-        least = lesser(least, open_label(nodes, w, epoch));
-        kept = keep(nodes, room, w, epoch, kept);
+        least = lesser(least, open_label(nodes, w));
+        kept = keep(nodes, room, w, kept);
         j += 1;
     }
     set_height(room, LABELLED, kept);
@@ -127,16 +143,16 @@ pub fn least_label(nodes: &[u32], room: &mut [u32]) -> u32 {
 }
 
 // The label of node w; NONE where it is reached.
-fn open_label(nodes: &[u32], w: u32, epoch: u32) -> u32 {
-    if of_node(nodes, w, MARK) == epoch {
-        return of_node(nodes, w, LABEL);
+fn open_label(nodes: &[u32], w: u32) -> u32 {
+    if is_reached(nodes, w) {
+        return NONE;
     }
-    NONE
+    of_node(nodes, w, LABEL)
 }
 
 // Puts node w behind those that stay on the stack, unless it is reached, and answers how many they are.
-fn keep(nodes: &[u32], room: &mut [u32], w: u32, epoch: u32, kept: u32) -> u32 {
-    if of_node(nodes, w, MARK) != epoch {
+fn keep(nodes: &[u32], room: &mut [u32], w: u32, kept: u32) -> u32 {
+    if is_reached(nodes, w) {
         return kept;
     }
     set_nth(room, LABELLED, kept, w);

@@ -2,20 +2,26 @@
 // guess stands where the circulation has it.
 use circulation::layout::NODE_STRIDE;
 
-// In a node: its potential.
+// In a node: its potential; HIDDEN where it is reached, so that no arc to it is on its kink.
 pub const POTENTIAL: u32 = circulation::nodes::POTENTIAL as u32;
 
 // In a node: how much more flows out of it than in, with DEFICIT_ZERO added.
 pub const DEFICIT: u32 = circulation::nodes::DEFICIT as u32;
 
-// In a node: the epoch where it is labelled, one more where it is reached; at the end its place in the order of reaching.
+// In a node: the epoch where it is labelled; at the end its place in the order of reaching.
 pub const MARK: u32 = circulation::nodes::ORDER as u32;
 
 // In a node: twice the arc over which it is labelled or reached, one more where it is the arc's tail.
 pub const PARENT: u32 = circulation::nodes::PARENT as u32;
 
-// In a node: how far the source has risen once it reaches the node.
+// In a node that is labelled: how far the source has risen once it reaches the node.
 pub const LABEL: u32 = 4;
+
+// In a node that is reached, in place of the label: its potential.
+pub const HIDDEN_POTENTIAL: u32 = LABEL;
+
+// More than any potential.
+pub const HIDDEN: u32 = 4294967295;
 
 // In a node: where its entries begin.
 pub const FIRST: u32 = 5;

@@ -5,6 +5,7 @@ use crate::augment::augment;
 use crate::entries::enter_all;
 use crate::layout::EPOCH;
 use crate::layout::PATIENCE;
+use crate::layout::REACHED;
 use crate::search::number;
 use crate::search::restart;
 use crate::search::seek;
@@ -13,6 +14,7 @@ use crate::slots::narrow;
 use crate::slots::write;
 use crate::sources::line_up;
 use crate::sources::rightmost;
+use crate::stacks::set_height;
 use crate::start::begin;
 use circulation::layout::NODE_STRIDE;
 
@@ -30,6 +32,7 @@ fn prepare(arcs: &[u32], flows: &mut [u32], nodes: &mut [u32], room: &mut [u32])
     enter_all(arcs, nodes, room, narrow(flows.len()));
     line_up(nodes, room);
     write(room, EPOCH, 0);
+    set_height(room, REACHED, 0);
 }
 
 // Reaches every node from ground, in the order that is left.

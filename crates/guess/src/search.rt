@@ -4,13 +4,14 @@ use crate::labels::label_all;
 use crate::labels::least_label;
 use crate::labels::reach;
 use crate::labels::reach_labelled;
+use crate::labels::show;
 use crate::layout::EPOCH;
+use crate::layout::HIDDEN_POTENTIAL;
 use crate::layout::LABELLED;
 use crate::layout::LOOKED;
 use crate::layout::MARK;
 use crate::layout::OPEN;
 use crate::layout::PATIENCE;
-use crate::layout::POTENTIAL;
 use crate::layout::REACHED;
 use crate::layout::RISEN;
 use crate::scan::scan;
@@ -25,16 +26,32 @@ use crate::stacks::nth;
 use crate::stacks::push;
 use crate::stacks::set_height;
 
-// Only the source s is reached. A new epoch makes all marks old.
+// Only the source s is reached.
 pub fn restart(nodes: &mut [u32], room: &mut [u32], s: u32) {
+    show_all(nodes, room);
+    forget(room);
+    reach(nodes, room, s);
+}
+
+// No node is reached or labelled: a new epoch makes all labels old.
+fn forget(room: &mut [u32]) {
     let epoch = read(room, EPOCH);
-    write(room, EPOCH, narrow(epoch as usize + 2));
+    write(room, EPOCH, narrow(epoch as usize + 1));
     write(room, RISEN, 0);
     write(room, LOOKED, 0);
     set_height(room, OPEN, 0);
     set_height(room, REACHED, 0);
     set_height(room, LABELLED, 0);
-    reach(nodes, room, s);
+}
+
+// Shows the potentials of all nodes that were reached.
+fn show_all(nodes: &mut [u32], room: &[u32]) {
+    let count = height(room, REACHED);
+    let mut j: u32 = 0;
+    while j < count {
+        show(nodes, nth(room, REACHED, j));
+        j += 1;
+    }
 }
 
 // Reaches nodes until one has an excess, and answers that; NONE where no more can be reached.
@@ -99,17 +116,19 @@ fn raise(nodes: &mut [u32], room: &[u32], d: u32) {
     let count = height(room, REACHED);
     let mut j: u32 = 0;
     while j < count {
-        shift(nodes, nth(room, REACHED, j), POTENTIAL, d, 0);
+        shift(nodes, nth(room, REACHED, j), HIDDEN_POTENTIAL, d, 0);
         j += 1;
     }
 }
 
-// Marks the reached nodes by the order in which they were reached, from 1 on.
+// Marks the reached nodes by the order in which they were reached, from 1 on, and shows their potentials.
 pub fn number(nodes: &mut [u32], room: &[u32]) {
     let count = height(room, REACHED);
     let mut j: u32 = 0;
     while j < count {
-        set_node(nodes, nth(room, REACHED, j), MARK, j + 1);
+        let u = nth(room, REACHED, j);
+        set_node(nodes, u, MARK, j + 1);
+        show(nodes, u);
         j += 1;
     }
 }

@@ -7,13 +7,10 @@ use Rattle.guess.proofs.labels.least_label.Statement.{statement}
 use Rattle.guess.proofs.labels.least_label.Tie as tie
 
 abbrev Inv-loop : tie.InvT-loop
-Inv-loop nodes room₀ epoch count least₀ kept₀ j₀ room least kept j = length room ≡ length room₀
+Inv-loop nodes room₀ count least₀ kept₀ j₀ room least kept j = length room ≡ length room₀
 
 abbrev μ-loop : tie.MeasureT-loop
-μ-loop nodes room₀ epoch count least₀ kept₀ j₀ room least kept j = count - j
-
-read-requires : tie.Need-read-requires Inv-loop μ-loop
-read-requires c κs = search needs
+μ-loop nodes room₀ count least₀ kept₀ j₀ room least kept j = count - j
 
 height-requires : tie.Need-height-requires Inv-loop μ-loop
 height-requires c κs = search needs
@@ -57,7 +54,6 @@ least-label-spec =
     (tie.spec
     Inv-loop
     μ-loop
-    read-requires
     height-requires
     loop-holds
     nth-requires

@@ -5,25 +5,13 @@ use Rattle.guess.proofs.scan.next_open.Statement.{statement}
 use Rattle.guess.proofs.scan.next_open.Tie as tie
 
 abbrev Inv-loop : tie.InvT-loop
-Inv-loop arcs flows nodes room u start end reached stands j₀ j = start ≤ j
+Inv-loop arcs flows nodes room u start end stands j₀ j = start ≤ j
 
 abbrev μ-loop : tie.MeasureT-loop
-μ-loop arcs flows nodes room u start end reached stands j₀ j = end - j
+μ-loop arcs flows nodes room u start end stands j₀ j = end - j
 
 end-after-requires : tie.Need-end-after-requires Inv-loop μ-loop
 end-after-requires c κs = search needs
-
-read-requires : tie.Need-read-requires Inv-loop μ-loop
-read-requires c κs = search needs
-
-cast-narrow : tie.Need-cast-narrow Inv-loop μ-loop
-cast-narrow c = search needs
-
-add-narrow : tie.Need-add-narrow Inv-loop μ-loop
-add-narrow c = search needs
-
-narrow-requires : tie.Need-narrow-requires Inv-loop μ-loop
-narrow-requires c κs = search needs
 
 of-node-requires : tie.Need-of-node-requires Inv-loop μ-loop
 of-node-requires c κs = search needs
@@ -68,10 +56,6 @@ next-open-spec =
     Inv-loop
     μ-loop
     end-after-requires
-    read-requires
-    cast-narrow
-    add-narrow
-    narrow-requires
     of-node-requires
     cast-stands
     add-stands

@@ -27,6 +27,9 @@ add-set-node c = search needs
 set-node-requires : tie.Need-set-node-requires Inv-loop μ-loop
 set-node-requires c κs = search needs
 
+show-requires : tie.Need-show-requires Inv-loop μ-loop
+show-requires c κs = search needs
+
 add-j : tie.Need-add-j Inv-loop μ-loop
 add-j c = search needs
 
@@ -53,6 +56,7 @@ number-spec =
     nth-requires
     add-set-node
     set-node-requires
+    show-requires
     add-j
     loop-less
     loop-again
