@@ -8,9 +8,9 @@ use sheet::layout::EDGE_STRIDE;
 use sheet::limits::MAX_LAYER_NODES;
 use sheet::limits::MAX_NODES;
 ghost use mathlib.Core.Path.{_≡_};
-ghost use mathlib.Core.List.{map};
+ghost use mathlib.Core.List.{[], map};
 ghost use Prim.Native.Nat.{_+_, _*_, _≤_, _<_, max};
-ghost use lib.ListN.{length, getD, set, drop, replicate};
+ghost use lib.ListN.{length, getD, set, drop};
 ghost use Rattle.leb128.specs.inside.Storing.{Puts};
 ghost use Rattle.sheet.specs.Limits.{«max-nodes»};
 ghost use Rattle.sheet.specs.Layout.{«edge-stride»};
@@ -19,20 +19,26 @@ ghost use Rattle.drawing.specs.Sheet.{«edge-of», «edges-of»};
 ghost use Rattle.drawing.specs.Traces.{traces};
 ghost use Rattle.drawing.specs.Arcs.{«edge-arc»};
 ghost use Rattle.drawing.specs.laws.Good.{GoodEdge, GoodEdges};
-ghost use Rattle.arcs.specs.inside.Traces.{strongest, slots, «slot-of», Rising, Tabled, Takes};
+ghost use Rattle.arcs.specs.inside.Traces.{strongest, «slot-of», slot, Rising, Tabled, Takes};
 
 // How many numbers a node has in the table.
 const SLOTS_OF_NODE: usize = MAX_LAYER_NODES as usize;
 
-// The numbers of the table.
+// The numbers of the large table, which serves every sheet.
 pub const SLOTS: usize = SLOTS_OF_NODE * MAX_NODES as usize;
+
+// How many nodes the small table has numbers for.
+pub const FEW_NODES: usize = 48;
+
+// The numbers of the small table.
+pub const FEW_SLOTS: usize = SLOTS_OF_NODE * FEW_NODES;
 
 // Every edge raises the number of its ends, the last edge first.
 pub fn gather(numbers: &[u16], start: usize, count: usize, first: &[u16], table: &mut [u8])
     requires { ⌜ GoodEdges max-nodes (now first) count (drop start (now numbers)) ⌝ }
     requires { ⌜ start + edge-stride * count ≤ length (now numbers) ⌝ }
     requires { ⌜ Rising (now first) ⌝ }
-    requires { ⌜ now table ≡ replicate slots 0 ⌝ }
+    requires { ⌜ Tabled (now first) (now table) (strongest []) ⌝ }
     ensures { λ _. ⌜ Tabled (now (first .entry)) (now (table .exit))
         (strongest (edges-of (now (first .entry)) count (drop start (now (numbers .entry))))) ⌝ }
 {
@@ -83,7 +89,8 @@ fn put_edge(
     n: usize,
 ) -> usize
     requires { ⌜ GoodEdge max-nodes (now first) (drop at (now numbers)) ⌝ }
-    requires { ⌜ (at + edge-stride ≤ length (now numbers)) × (n + stride ≤ length (now arcs)) × (slots ≤ length (now table)) ⌝ }
+    requires { ⌜ (at + edge-stride ≤ length (now numbers)) × (n + stride ≤ length (now arcs))
+        × (slot (edge-of (now first) (drop at (now numbers))) < length (now table)) ⌝ }
     ensures { λ r. ⌜ Takes (edge-of (now (first .entry)) (drop at (now (numbers .entry)))) (now (arcs .entry)) n (now (arcs .exit)) r
         (now (table .entry)) (now (table .exit)) ⌝ }
 {
@@ -94,7 +101,7 @@ fn put_edge(
 
 // Raises the number of an edge's ends to the edge's strength.
 fn raise(table: &mut [u8], e: ReadEdge)
-    requires { ⌜ (slots ≤ length (now table)) × (e .upper < max-nodes) ⌝ }
+    requires { ⌜ (slot-of (e .upper) (e .lower) < length (now table)) × (e .upper < max-nodes) ⌝ }
     ensures { λ _. ⌜ now (table .exit) ≡ set (now (table .entry)) (slot-of (e .upper) (e .lower))
         (max (e .strength) (getD (now (table .entry)) (slot-of (e .upper) (e .lower)) 0)) ⌝ }
 {
@@ -104,7 +111,7 @@ fn raise(table: &mut [u8], e: ReadEdge)
 
 // Takes the number of an edge's ends and leaves 0.
 fn take(table: &mut [u8], e: ReadEdge) -> u8
-    requires { ⌜ (slots ≤ length (now table)) × (e .upper < max-nodes) ⌝ }
+    requires { ⌜ (slot-of (e .upper) (e .lower) < length (now table)) × (e .upper < max-nodes) ⌝ }
     ensures answer { λ r. ⌜ r ≡ getD (now (table .entry)) (slot-of (e .upper) (e .lower)) 0 ⌝ }
     ensures slice { λ r. ⌜ now (table .exit) ≡ set (now (table .entry)) (slot-of (e .upper) (e .lower)) 0 ⌝ }
 {
@@ -118,7 +125,7 @@ fn take(table: &mut [u8], e: ReadEdge) -> u8
 // layer has no more nodes than a node has numbers.
 fn slot(upper: usize, lower: usize) -> usize
     requires { ⌜ upper < max-nodes ⌝ }
-    ensures { λ r. ⌜ (r ≡ slot-of upper lower) × (r < slots) ⌝ }
+    ensures { λ r. ⌜ r ≡ slot-of upper lower ⌝ }
 {
     SLOTS_OF_NODE * upper + lower % SLOTS_OF_NODE
 }

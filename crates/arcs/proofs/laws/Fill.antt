@@ -1,7 +1,7 @@
 -- The arcs of the edges and then those of the layers are the network's, and how many they are, from what a plan says.
 use Prim.Native.Nat.{ℕ, zero, suc, _+_, _-_, _*_, _≤_}
 use mathlib.Core.Path.{_≡_, sym, _∙_, ap, ap₂}
-use mathlib.Core.List.{List, _++_, map, flatMap}
+use mathlib.Core.List.{List, [], _++_, map, flatMap}
 use native.Mathlib.Omega.{arith}
 use lib.ListN.{length, getD, drop, take, length-append, length-drop, length-map}
 use lib.Seq.{getD-take, drop-drop}
@@ -16,16 +16,17 @@ use Rattle.drawing.specs.Sheet.{Edge, edges-of, first-nodes, sheet-of}
 use Rattle.drawing.specs.Traces.{traces}
 use Rattle.drawing.specs.Arcs.{edge-arc, layer-arcs, network}
 use Rattle.drawing.specs.laws.Good.{GoodLayers, GoodEdges, GoodRest, Good}
+use Rattle.drawing.specs.laws.GoodNumbers.{first-nodes-length}
 use Rattle.drawing.specs.laws.Traces.{traces-length}
 use Rattle.drawing.specs.laws.Proper.{edges-length}
 use Rattle.drawing.specs.laws.ArcCount.{layers-count}
 use Rattle.arcs.specs.Words.{Small}
 use Rattle.arcs.specs.inside.Pieces.{layers-arcs}
 use Rattle.arcs.specs.inside.Plans.{Planned, written}
-use Rattle.arcs.specs.inside.Traces.{Rising}
+use Rattle.arcs.specs.inside.Traces.{strongest, Rising, Blank, Tabled}
 use Rattle.arcs.specs.declared.Plan.{Plan}
 use Rattle.arcs.proofs.laws.Packing.{puts-arcs}
-use Rattle.arcs.proofs.laws.TraceTable.{rising}
+use Rattle.arcs.proofs.laws.TraceTable.{rising, blank-tabled}
 
 -- the number that stands at the width is the sheet's width
 pub width-read : (s : List ℕ) {w : ℕ} → Small w (getD s width-at 0) → w ≡ sheet-of s .width
@@ -73,6 +74,13 @@ module _ {s first : List ℕ} {p : Plan} (g : Good max-nodes s) (planned : Plann
       planned .nodes
       ∙ sym (getD-take (p .layers + 1) first (p .layers) 0 (omega arith))
       ∙ ap (λ (l : List ℕ). getD l (p .layers) 0) (planned .firsts)
+
+  -- a table of zeros for the nodes
+  pub nodes-tabled : {table : List ℕ} → Blank (p .nodes) table → Tabled firsts table (strongest [])
+  nodes-tabled b =
+      rw firsts-are
+      (blank-tabled (rising (p .layers) 0 (drop first-layer-at s)) (p .layers)
+      (first-nodes-length (p .layers) 0 (drop first-layer-at s)) (rw ground-is at b))
 
   -- the layers are good
   pub layers-good : GoodLayers max-nodes (p .layers) 0 (drop first-layer-at s)

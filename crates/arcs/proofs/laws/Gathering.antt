@@ -1,18 +1,18 @@
 -- The loop of `gather`: the table holds the greatest strengths of the edges from an index on, and the edge before them is added.
 use Prim.Native.Nat.{ℕ, suc, max, _+_, _-_, _*_, _<_}
 use mathlib.Core.Path.{_≡_, refl, _∙_, ap}
-use mathlib.Core.List.{List}
+use mathlib.Core.List.{List, []}
 use native.Mathlib.Omega.{arith}
-use lib.ListN.{length, getD, drop, set, length-set, replicate}
+use lib.ListN.{length, getD, drop, set, length-set}
 use lib.Seq.{drop-drop}
 use Rattle.sheet.specs.Limits.{max-nodes}
 use Rattle.sheet.specs.Layout.{edge-stride}
 use Rattle.drawing.specs.Sheet.{Edge, edge-of, edges-of}
 use Rattle.drawing.specs.laws.Good.{GoodEdge, GoodEdges}
-use Rattle.arcs.specs.inside.Traces.{as-read, strongest, slots, slot-of, slot, Rising, Tabled}
+use Rattle.arcs.specs.inside.Traces.{as-read, strongest, slot-of, slot, Rising, Tabled}
 use Rattle.arcs.specs.declared.ReadEdge.{ReadEdge}
 use Rattle.arcs.proofs.laws.Edges.{good-at}
-use Rattle.arcs.proofs.laws.TraceTable.{joins, slot-inside, raised, zeros}
+use Rattle.arcs.proofs.laws.TraceTable.{joins, raised}
 
 -- so many edges are left in front of an index, and the table is made of those behind it
 pub record Gathering (s first : List ℕ) (start count : ℕ) (old table : List ℕ) (left at : ℕ) : Type 0 where
@@ -23,10 +23,10 @@ pub record Gathering (s first : List ℕ) (start count : ℕ) (old table : List 
   pub tabled : Tabled first table (strongest (edges-of first done (drop at s)))
 
 -- before the last edge
-pub gathering-begin : (s first : List ℕ) (start count : ℕ) {table : List ℕ} → table ≡ replicate slots 0
+pub gathering-begin : (s first : List ℕ) (start count : ℕ) {table : List ℕ} → Tabled first table (strongest [])
     → Gathering s first start count table table count (start + edge-stride * count)
-gathering-begin s first start count e =
-    record { done = 0; split = omega arith; here = refl; size = refl; tabled = zeros first e }
+gathering-begin s first start count t =
+    record { done = 0; split = omega arith; here = refl; size = refl; tabled = t }
 
 module _ {s first old table : List ℕ} {start count left at : ℕ} (p : Gathering s first start count old table left at) (h : 0 < left)
     (good : GoodEdges max-nodes first count (drop start s)) where
@@ -38,9 +38,12 @@ module _ {s first old table : List ℕ} {start count left at : ℕ} (p : Gatheri
   pub before-good : GoodEdge max-nodes first (drop (at - edge-stride) s)
   before-good = rw before-here (good-at count start (left - 1) s (omega (arith, p .split)) good)
 
-  -- its index is in the table
-  pub before-inside : {e : ReadEdge} → e ≡ as-read (edge-of first (drop (at - edge-stride) s)) → e .upper < max-nodes
-  before-inside e = rw e (before-good .upper)
+  -- its index is in the table, and its upper end is a node
+  pub before-inside : {e : ReadEdge} → e ≡ as-read (edge-of first (drop (at - edge-stride) s))
+      → (slot-of (e .upper) (e .lower) < length table) × (e .upper < max-nodes)
+  before-inside is =
+      let x : Edge = edge-of first (drop (at - edge-stride) s) in
+      rw is (p .tabled .room x (joins (drop (at - edge-stride) s) before-good), before-good .upper)
 
   -- it raises its number
   pub gathering-step : {e : ReadEdge} {newer : List ℕ} → Rising first → e ≡ as-read (edge-of first (drop (at - edge-stride) s))
@@ -60,8 +63,7 @@ module _ {s first old table : List ℕ} {start count left at : ℕ} (p : Gatheri
         here = before-here;
         size = ap length now ∙ length-set table (slot x) (max (as-read x .strength) (getD table (slot x) 0)) ∙ p .size;
         tabled = rw (now, behind) (raised rise (edges-of first (p .done) (drop at s)) x (p .tabled)
-            (joins (drop (at - edge-stride) s) before-good)
-            (slot-inside (drop (at - edge-stride) s) (omega arith) before-good));
+            (joins (drop (at - edge-stride) s) before-good));
       }
 
 -- no edge is left

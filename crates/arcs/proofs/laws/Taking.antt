@@ -24,7 +24,7 @@ use Rattle.arcs.specs.declared.ReadEdge.{ReadEdge}
 use Rattle.arcs.proofs.laws.Numbers.{less-one}
 use Rattle.arcs.proofs.laws.Packing.{left-arcs}
 use Rattle.arcs.proofs.laws.Strengths.{light, good-light, left-over-arc}
-use Rattle.arcs.proofs.laws.TraceTable.{joins, slot-inside, taken}
+use Rattle.arcs.proofs.laws.TraceTable.{joins, taken}
 
 -- what an edge takes and writes
 pub edge-takes : (e : Edge) {r : ReadEdge} {table taken old new x : List ℕ} {at next found : ℕ} → r ≡ as-read e
@@ -87,6 +87,10 @@ module _ {s first old new table taken′ : List ℕ} {start count todo at n : �
   pub edge-good : 0 < todo → GoodEdge max-nodes first (drop at s)
   edge-good h = first-good todo (drop at s) h (p .good)
 
+  -- its index is in the table
+  pub edge-inside : 0 < todo → slot (edge-of first (drop at s)) < length taken′
+  edge-inside h = p .tabled .room (edge-of first (drop at s)) (joins (drop at s) (edge-good h))
+
   -- it takes its number, and its arc is written
   pub edges-step : {newer later : List ℕ} {m : ℕ} → Rising first → 0 < todo → Takes (edge-of first (drop at s)) new n newer m taken′ later
       → EdgesLeft s first start count old newer table later (todo - 1) (at + edge-stride) m
@@ -107,7 +111,7 @@ module _ {s first old new table taken′ : List ℕ} {start count todo at n : �
         size = ap length (x .left) ∙ length-set taken′ (slot e) 0 ∙ p .size;
         good = rest-good max-nodes first todo at s h (p .good);
         weights = p .weights;
-        tabled = rw (x .left) (taken rise es (p .before) e (p .tabled) j (slot-inside (drop at s) (omega arith) (edge-good h)));
+        tabled = rw (x .left) (taken rise es (p .before) e (p .tabled) j);
         left = left-arcs (edge-arc carried ∷ []) (map edge-arc (traces-behind es (e ∷ p .before) rest))
             (rw (edges-next first todo at s h) at (p .left)) puts;
       }

@@ -12,14 +12,13 @@ use lib.ListN.{length, getD, set, length-set, replicate, length-replicate}
 use lib.Seq.{getD-set-same, getD-set-other}
 use Rattle.leb128.specs.laws.Cases.{lt-or-le}
 use Rattle.network.specs.laws.Tests.{is-true, is-false, not-both}
-use Rattle.sheet.specs.Limits.{max-nodes}
 use Rattle.sheet.specs.Layout.{edge-layer-at}
 use Rattle.drawing.specs.Sheet.{Edge, first-nodes, edge-of}
 use Rattle.drawing.specs.Traces.{parallel}
 use Rattle.drawing.specs.laws.Good.{GoodEdge}
 use Rattle.drawing.specs.laws.GoodNumbers.{next-first, first-nodes-length}
 use Rattle.drawing.specs.laws.Traces.{parallel-ends, ends-parallel, greatest-same}
-use Rattle.arcs.specs.inside.Traces.{strength, strongest, left-over, slots, slot-of, slot, Joins, Rising, Tabled}
+use Rattle.arcs.specs.inside.Traces.{strength, strongest, left-over, slot-of, slot, Joins, Rising, Blank, Tabled}
 
 -- the first nodes of layers never fall
 pub rising : (k v : ℕ) (s : List ℕ) → Rising (first-nodes k v s)
@@ -41,10 +40,6 @@ joins {n} {first} s g =
       below = omega arith;
       near = omega (arith, g .near, g .positions);
     }
-
--- its index is in the table
-pub slot-inside : {n : ℕ} {first : List ℕ} (s : List ℕ) → n ≤ max-nodes → GoodEdge n first s → slot (edge-of first s) < slots
-slot-inside s h g = omega (arith, g .upper)
 
 -- parallel edges share an index
 slot-shared : (a b : Edge) → T (parallel a b) → slot a ≡ slot b
@@ -92,18 +87,18 @@ module _ {first : List ℕ} (rise : Rising first) where
       ends-parallel a b up (omega (arith, x .below, x .near, y .below, y .near))
 
   -- the number of an edge is stored: that of parallel edges is the new one, all others stay
-  stored : {table : List ℕ} {f g : Edge → ℕ} (e : Edge) (n : ℕ) → Tabled first table f → Joins first e → slot e < slots
+  stored : {table : List ℕ} {f g : Edge → ℕ} (e : Edge) (n : ℕ) → Tabled first table f → Joins first e
       → ((x : Edge) → T (parallel x e) → n ≡ g x) → ((x : Edge) → T (not (parallel x e)) → f x ≡ g x)
       → Tabled first (set table (slot e) n) g
-  stored {table} {f} {g} e n t j h same other = record {
-    room = omega (arith, t .room, length-set table (slot e) n);
+  stored {table} {f} {g} e n t j same other = record {
+    room = λ x k. omega (arith, t .room x k, length-set table (slot e) n);
     number = λ x k. by-case x k (parallel x e) refl;
   }
     where
       by-case : (x : Edge) → Joins first x → (b : Bool) → parallel x e ≡ b → getD (set table (slot e) n) (slot x) 0 ≡ g x
       by-case x k true p =
           ap (λ (i : ℕ). getD (set table (slot e) n) i 0) (slot-shared x e (rw p tt))
-          ∙ getD-set-same table (slot e) n 0 (omega (arith, t .room))
+          ∙ getD-set-same table (slot e) n 0 (t .room e j)
           ∙ same x (rw p tt)
       by-case x k false p =
           getD-set-other table (slot e) (slot x) n 0 (λ i. not-both (parallel x e) (slot-apart x e k j i) (rw p tt))
@@ -111,28 +106,46 @@ module _ {first : List ℕ} (rise : Rising first) where
           ∙ other x (rw p tt)
 
   -- one edge more raises the number of its ends to its strength
-  pub raised : {table : List ℕ} (es : List Edge) (e : Edge) → Tabled first table (strongest es) → Joins first e → slot e < slots
+  pub raised : {table : List ℕ} (es : List Edge) (e : Edge) → Tabled first table (strongest es) → Joins first e
       → Tabled first (set table (slot e) (max (strength e) (getD table (slot e) 0))) (strongest (e ∷ es))
-  raised {table} es e t j h =
-      stored e (max (strength e) (getD table (slot e) 0)) t j h
+  raised {table} es e t j =
+      stored e (max (strength e) (getD table (slot e) 0)) t j
       (λ x p. let ends = parallel-ends x e p in
       ap (max (strength e)) (t .number e j ∙ sym (greatest-same strength x e (ends .0) (ends .1) es)) ∙ rw (is-true (parallel x e) p))
       (λ x p. rw (is-false (parallel x e) p))
 
   -- one edge more takes the number of its ends
   pub taken : {table : List ℕ} (es before : List Edge) (e : Edge) → Tabled first table (left-over es before) → Joins first e
-      → slot e < slots → Tabled first (set table (slot e) 0) (left-over es (e ∷ before))
-  taken es before e t j h =
-      stored e 0 t j h (λ x p. rw (is-true (parallel x e) p)) (λ x p. rw (is-false (parallel x e) p))
+      → Tabled first (set table (slot e) 0) (left-over es (e ∷ before))
+  taken es before e t j =
+      stored e 0 t j (λ x p. rw (is-true (parallel x e) p)) (λ x p. rw (is-false (parallel x e) p))
 
--- a table of zeros
-pub zeros : (first : List ℕ) {table : List ℕ} → table ≡ replicate slots 0 → Tabled first table (strongest [])
-zeros first {table} e = record {
-  room = omega (arith, ap length e ∙ length-replicate {A = ℕ} slots 0);
-  number = λ x j. ap (λ (t : List ℕ). getD t (slot x) 0) e ∙ none slots (slot x);
-}
-  where
-    none : (n i : ℕ) → _≡_ {A = ℕ} (getD (replicate n 0) i 0) 0
-    none zero i = refl
-    none (suc n) zero = refl
-    none (suc n) (suc i) = none n i
+  -- an upper end is before the last first node
+  upper-before : (last : ℕ) → length first ≡ suc last → (e : Edge) → Joins first e → e .upper < getD first last 0
+  upper-before last long e x =
+      let k : ℕ = last - suc (x .layer) in
+      let there : suc (x .layer) + k ≡ last = omega (arith, x .there) in
+      omega (
+        arith,
+        x .inside,
+        rises (suc (x .layer)) k (omega arith),
+        ap (λ (j : ℕ). getD first j 0) there,
+      )
+
+  -- a table of zeros for all nodes, whose count is the last first node
+  pub blank-tabled : (last : ℕ) → length first ≡ suc last → {table : List ℕ} → Blank (getD first last 0) table
+      → Tabled first table (strongest [])
+  blank-tabled last long {table} b = record {
+    room = λ x j. omega (
+      arith,
+      upper-before last long x j,
+      b .enough,
+      ap length (b .zeros) ∙ length-replicate {A = ℕ} (b .size) 0,
+    );
+    number = λ x j. ap (λ (t : List ℕ). getD t (slot x) 0) (b .zeros) ∙ none (b .size) (slot x);
+  }
+    where
+      none : (n i : ℕ) → _≡_ {A = ℕ} (getD (replicate n 0) i 0) 0
+      none zero i = refl
+      none (suc n) zero = refl
+      none (suc n) (suc i) = none n i

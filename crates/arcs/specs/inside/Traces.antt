@@ -4,9 +4,9 @@ use mathlib.Core.Path.{_≡_}
 use mathlib.Core.Bool.{cond}
 use mathlib.Core.List.{List, [], _∷_}
 use lib.Dec.{leb}
-use lib.ListN.{length, getD, set}
+use lib.ListN.{length, getD, set, replicate}
 use Rattle.leb128.specs.inside.Storing.{Puts}
-use Rattle.sheet.specs.Limits.{max-layer-nodes, max-nodes, max-weight}
+use Rattle.sheet.specs.Limits.{max-layer-nodes, max-weight}
 use Rattle.network.specs.Network.{Arc}
 use Rattle.network.specs.Packed.{packs}
 use Rattle.drawing.specs.Sheet.{Edge}
@@ -39,9 +39,9 @@ strongest es e = greatest-parallel strength e es
 abbrev pub left-over : List Edge → List Edge → Edge → ℕ
 left-over es before e = cond (any-parallel e before) 0 (strongest es e)
 
--- the numbers of the table: as many for each node as a layer has nodes at most
-abbrev pub slots : ℕ
-slots = max-layer-nodes * max-nodes
+-- how many nodes the small table has numbers for
+abbrev pub few-nodes : ℕ
+few-nodes = 48
 
 -- the index of two ends in the table
 abbrev pub slot-of : ℕ → ℕ → ℕ
@@ -64,9 +64,15 @@ pub record Joins (first : List ℕ) (e : Edge) : Type 0 where
 pub record Rising (first : List ℕ) : Type 0 where
   pub next : (i : ℕ) → suc i < length first → getD first i 0 ≤ getD first (suc i) 0
 
--- the table's number of each edge is what f gives
+-- a table of zeros for so many nodes: as many numbers for each node as a layer has nodes at most
+pub record Blank (nodes : ℕ) (table : List ℕ) : Type 0 where
+  pub size : ℕ
+  pub enough : max-layer-nodes * nodes ≤ size
+  pub zeros : table ≡ replicate size 0
+
+-- each edge has its number in the table, which is what f gives
 pub record Tabled (first table : List ℕ) (f : Edge → ℕ) : Type 0 where
-  pub room : slots ≤ length table
+  pub room : (e : Edge) → Joins first e → slot e < length table
   pub number : (e : Edge) → Joins first e → getD table (slot e) 0 ≡ f e
 
 -- the edge e takes its number and leaves 0, and the arc of that strength is stored

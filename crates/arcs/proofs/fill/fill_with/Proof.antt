@@ -1,7 +1,7 @@
 -- `arcs::fill::fill_with` meets its contract: the arcs of the edges and then those of the layers are the network's.
 use native.Mathlib.Omega.{arith}
 use borrow.Author.Needs.{needs}
-use Rattle.arcs.proofs.laws.Fill.{width-read, firsts-rise, edges-good, edges-there}
+use Rattle.arcs.proofs.laws.Fill.{width-read, firsts-rise, edges-good, edges-there, nodes-tabled}
 use Rattle.arcs.proofs.laws.Fill.{layers-good, nodes-few, layers-room, edges-end, fill-end}
 use Rattle.arcs.proofs.fill.fill_with.Statement.{statement}
 use Rattle.arcs.proofs.fill.fill_with.Tie as tie
@@ -29,7 +29,7 @@ gather-requires c κs =
     let start = c .before .before .before .before .before .before .before .before in
     let good = start .pre .0 in
     let planned = start .pre .1 .0 in
-    (edges-good good planned, (edges-there good planned .0, (firsts-rise good planned, start .pre .1 .1 .1)))
+    (edges-good good planned, (edges-there good planned .0, (firsts-rise good planned, nodes-tabled good planned (start .pre .1 .1 .1))))
 
 add-put-edges : tie.Need-add-put-edges
 add-put-edges c = search needs

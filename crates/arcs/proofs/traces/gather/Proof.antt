@@ -36,7 +36,7 @@ raise-requires c κs =
     let loop = c .before .before .before .loop in
     let loop-test = c .before .before .loop-test in
     let start = c .before .before .before .before .before .before .before in
-    (loop .inv .tabled .room, before-inside (loop .inv) (loop-test .taken) (start .pre .0) (c .before .edge-at .ensures))
+    before-inside (loop .inv) (loop-test .taken) (start .pre .0) (c .before .edge-at .ensures)
 
 loop-less : tie.Need-loop-less Inv-loop μ-loop
 loop-less c = omega arith

@@ -10,7 +10,7 @@ edge-at-requires c κs = search needs
 take-requires : tie.Need-take-requires
 take-requires c κs =
     let start = c .before .before .before .before .before .before in
-    (start .pre .1 .2, rw (c .before .edge-at .ensures) (start .pre .0 .upper))
+    rw (c .before .edge-at .ensures) (start .pre .1 .2, start .pre .0 .upper)
 
 strength-arc-requires : tie.Need-strength-arc-requires
 strength-arc-requires c κs =

@@ -1,6 +1,6 @@
 -- `arcs::traces::put_edges` meets its contract: the loop's invariant is `EdgesLeft`.
 use native.Mathlib.Omega.{arith}
-use Rattle.arcs.proofs.laws.Taking.{EdgesLeft, edges-begin, edge-good, edges-step, edges-end}
+use Rattle.arcs.proofs.laws.Taking.{EdgesLeft, edges-begin, edge-good, edge-inside, edges-step, edges-end}
 use Rattle.arcs.proofs.traces.put_edges.Statement.{statement}
 use Rattle.arcs.proofs.traces.put_edges.Tie as tie
 
@@ -26,7 +26,7 @@ put-edge-requires c κs =
         omega (arith, loop .inv .inside),
         omega
             (arith, loop .inv .room, loop .inv .left .size, start .pre .1 .0),
-        loop .inv .tabled .room,
+        edge-inside (loop .inv) (loop-test .taken),
       ),
     )
 

@@ -19,7 +19,7 @@ same-length : tie.Need-same-length
 same-length c = search needs
 
 returns : tie.Need-returns
-returns c = rw (c .larger .ensures, c .before .before .slot .ensures .0)
+returns c = rw (c .larger .ensures, c .before .before .slot .ensures)
 
 pub raise-spec : {M : Type 1} → statement M
 raise-spec =

@@ -17,7 +17,7 @@ same-length : tie.Need-same-length
 same-length c = search needs
 
 returns : tie.Need-returns
-returns c = rw (c .before .slot .ensures .0) (refl, refl)
+returns c = rw (c .before .slot .ensures) (refl, refl)
 
 pub take-spec : {M : Type 1} → statement M
 take-spec =
