@@ -6,16 +6,15 @@ mod results;
 mod stages;
 mod widths;
 
-use crate::limits::MAX_NODE_NUMBERS;
+use crate::limits::FEW_BYTES;
+use crate::limits::FEW_ELEMENTS;
 use crate::refusals::refused;
-use crate::stages::draw_within;
+use crate::stages::draw_arcs;
 use crate::widths::narrow;
 use arcs::Counts;
 use arcs::Loaded;
-use arcs::limits::MAX_ARCS;
 use arcs::limits::MAX_ELEMENTS;
 use arcs::limits::MAX_FIRSTS;
-use circulation::layout::NODE_STRIDE;
 use leb128::Refusal;
 use leb128::refusals::SLICE_SHORT;
 use network::layout::STRIDE;
@@ -35,6 +34,21 @@ pub enum Answer {
 // The leftmost least drawing of a sheet, in front of the places, and a list that shows its total to be least, in front of the
 // list; or the refusal.
 pub fn draw(bytes: &[u8], places: &mut [u16], list: &mut [i32]) -> Answer
+    ensures { λ r. ⌜ Draws (read-sheet (now (bytes .entry))) (now (places .entry)) (now (list .entry))
+        (now (places .exit)) (now (list .exit)) (result r) ⌝ }
+{
+    if bytes.len() <= FEW_BYTES {
+        let mut first = [0u16; MAX_FIRSTS];
+        let mut arcs = [0u32; FEW_ELEMENTS];
+        if let Loaded::Sheet(counts) = arcs::load(bytes, &mut first, &mut arcs) {
+            return draw_loaded(&arcs, &first, counts, places, list);
+        }
+    }
+    draw_any(bytes, places, list)
+}
+
+// The same with room for every sheet.
+fn draw_any(bytes: &[u8], places: &mut [u16], list: &mut [i32]) -> Answer
     ensures { λ r. ⌜ Draws (read-sheet (now (bytes .entry))) (now (places .entry)) (now (list .entry))
         (now (places .exit)) (now (list .exit)) (result r) ⌝ }
 {
@@ -88,18 +102,7 @@ fn draw_loaded(
     if list.len() < counts.arcs {
         return refused(SLICE_SHORT);
     }
-    let mut flows = [0u32; MAX_ARCS];
-    let mut nodes = [0u32; MAX_NODE_NUMBERS];
-    let count = counts.arcs;
-    let room = NODE_STRIDE * (counts.nodes + 1);
-    let number = draw_within(
-        arcs,
-        counts,
-        &mut flows[0..count],
-        &mut nodes[0..room],
-        places,
-        list,
-    );
+    let number = draw_arcs(arcs, counts, places, list);
     if number != 0 {
         return refused(number);
     }

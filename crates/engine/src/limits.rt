@@ -1,8 +1,9 @@
-// The room that drawing a sheet takes.
+// The room that drawing a sheet takes, and the smaller one of a sheet with few arcs: clearing it is a part of the time.
 use arcs::limits::MAX_ARCS;
 use circulation::layout::NODE_STRIDE;
 use guess::layout::STACK_COUNT;
 use guess::layout::STACKS;
+use network::layout::STRIDE;
 use sheet::limits::MAX_NODES;
 
 // The nodes of a sheet with ground.
@@ -13,3 +14,21 @@ pub const MAX_NODE_NUMBERS: usize = NODE_STRIDE * MAX_GROUNDED;
 
 // The room to solve in, with which solving is fast, for so many nodes and the arcs of a sheet.
 pub const MAX_ROOM: usize = STACKS + STACK_COUNT * MAX_GROUNDED + 2 * MAX_ARCS;
+
+// Few arcs are so many at most.
+pub const FEW_ARCS: usize = 96;
+
+// The numbers of few arcs.
+pub const FEW_ELEMENTS: usize = STRIDE * FEW_ARCS;
+
+// The nodes of a sheet with few arcs, with ground: each node has two arcs or more.
+pub const FEW_GROUNDED: usize = FEW_ARCS / 2 + 1;
+
+// The numbers of so many nodes.
+pub const FEW_NODE_NUMBERS: usize = NODE_STRIDE * FEW_GROUNDED;
+
+// The room to solve in, with which solving is fast, for so many nodes and few arcs.
+pub const FEW_ROOM: usize = STACKS + STACK_COUNT * FEW_GROUNDED + 2 * FEW_ARCS;
+
+// Most sheets of so many bytes have few arcs.
+pub const FEW_BYTES: usize = 256;

@@ -1,11 +1,11 @@
--- `engine::draw` meets its contract: a refusal is the reader's, and the loaded arcs are drawn for the bytes.
+-- `engine::draw_any` meets its contract: a refusal is the reader's, and the loaded arcs are drawn for the bytes.
 use native.Mathlib.Omega.{arith}
 use borrow.Author.Needs.{needs}
 use Rattle.arcs.specs.laws.HeldArcs.{loaded-holds}
 use Rattle.arcs.specs.laws.Loaded.{loaded-sheet, reader-refused}
 use Rattle.engine.proofs.laws.Draw.{refused-drawn, loaded-drawn}
-use Rattle.engine.proofs.draw.Statement.{statement}
-use Rattle.engine.proofs.draw.Tie as tie
+use Rattle.engine.proofs.draw_any.Statement.{statement}
+use Rattle.engine.proofs.draw_any.Tie as tie
 
 slice-aggregate-load : tie.Need-slice-aggregate-load
 slice-aggregate-load c = search needs
@@ -60,8 +60,8 @@ returns-2 c =
     (load .ensures .1 .1))
     (start .args .places .now) (start .args .list .now) _ _ _ (c .before .before .before .draw-loaded .ensures)
 
-pub draw-spec : {M : Type 1} → statement M
-draw-spec =
+pub draw-any-spec : {M : Type 1} → statement M
+draw-any-spec =
     tie.close
     (tie.spec
     slice-aggregate-load

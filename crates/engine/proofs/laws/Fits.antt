@@ -86,6 +86,10 @@ module _ {f a : List ℕ} {c : Counts} (h : Holds f a c) where
   pub arcs-few : c .arcs ≤ 1024
   arcs-few = omega (arith, size-is h, proper h .few, proper h .nodes)
 
+  -- each node has two arcs
+  pub twice-nodes : 2 * c .nodes ≤ c .arcs
+  twice-nodes = omega (arith, size-is h, h .nodes-are)
+
   -- a test that all arcs of the sheet pass
   all-held : (t : Network → Arc → Bool) → T (all (t (network (sheet-of (h .numbers)))) (network (sheet-of (h .numbers)) .arcs))
       → (i : ℕ) → i < c .arcs → T (t (network-of a (c .nodes) (c .arcs)) (arc-at a i))

@@ -1,10 +1,10 @@
--- `engine::stages::settle` meets its contract: the solver takes a sheet's packed arcs, and answers a solution or that there is none.
+-- `engine::stages::settle_many` meets its contract: the solver takes a sheet's packed arcs, and answers a solution or that there is none.
 use native.Mathlib.Omega.{arith}
 use borrow.Author.Needs.{needs}
 use Rattle.engine.proofs.laws.Draw.{settles}
 use Rattle.engine.proofs.laws.Fits.{nodes-few}
-use Rattle.engine.proofs.stages.settle.Statement.{statement}
-use Rattle.engine.proofs.stages.settle.Tie as tie
+use Rattle.engine.proofs.stages.settle_many.Statement.{statement}
+use Rattle.engine.proofs.stages.settle_many.Tie as tie
 
 slice-aggregate-solve : tie.Need-slice-aggregate-solve
 slice-aggregate-solve c = search needs
@@ -29,8 +29,8 @@ returns c =
     (solve .last .1 .1 .0) _ (solve .result) (c .finding-refusal .result) (start .pre .1 .0) (start .pre .1 .1)
     (omega (arith, nodes-few (start .pre .0 .held))) (solve .ensures) (c .finding-refusal .ensures)
 
-pub settle-spec : {M : Type 1} → statement M
-settle-spec =
+pub settle-many-spec : {M : Type 1} → statement M
+settle-many-spec =
     tie.close
     (tie.spec
     slice-aggregate-solve
