@@ -21,7 +21,7 @@ pub enum Augmented {
     Failed,
 }
 
-// Moves something to the source s, which lacks it, from a node that is reached and has an excess.
+// Moves something to the source s from a node that is reached and has an excess.
 pub fn augment(
     arcs: &[u32],
     flows: &mut [u32],

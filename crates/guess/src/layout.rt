@@ -59,8 +59,8 @@ pub const REACHED: u32 = 1;
 // The stack of nodes that are labelled; some of them may be reached.
 pub const LABELLED: u32 = 2;
 
-// The stack of nodes that lack something, the rightmost last.
-pub const LACKING: u32 = 3;
+// The stack of nodes with a deficit, the rightmost last.
+pub const SOURCES: u32 = 3;
 
 // How many stacks there are.
 pub const STACK_COUNT: usize = 4;

@@ -1,5 +1,5 @@
 // A guess of flows, of potentials and of an order in which each node is held by an earlier one: the primal-dual method, with
-// searches from the rightmost node that lacks something. Nothing is proved of it but that it ends and stays within its slices.
+// searches from the rightmost node with a deficit. Nothing is proved of it but that it ends and stays within its slices.
 use crate::augment::Augmented;
 use crate::augment::augment;
 use crate::entries::enter_all;
@@ -26,7 +26,7 @@ pub fn guess(arcs: &[u32], flows: &mut [u32], nodes: &mut [u32], room: &mut [u32
     flood(arcs, flows, nodes, room);
 }
 
-// First flows, the entries of each node, and the nodes that lack something.
+// First flows, the entries of each node, and the nodes with a deficit.
 fn prepare(arcs: &[u32], flows: &mut [u32], nodes: &mut [u32], room: &mut [u32]) {
     begin(arcs, flows, nodes);
     enter_all(arcs, nodes, room, narrow(flows.len()));
@@ -45,7 +45,7 @@ fn flood(arcs: &[u32], flows: &[u32], nodes: &mut [u32], room: &mut [u32]) {
     number(nodes, room);
 }
 
-// Moves what is lacking, until nothing is or a search fails.
+// Serves the nodes with a deficit until there is none or a search fails.
 fn serve_all(arcs: &[u32], flows: &mut [u32], nodes: &mut [u32], room: &mut [u32]) {
     let mut left = PATIENCE;
     while left > 0 {
@@ -60,7 +60,7 @@ fn serve_all(arcs: &[u32], flows: &mut [u32], nodes: &mut [u32], room: &mut [u32
     }
 }
 
-// One search from node s, which lacks something. It goes on as long as no arc is used up and s lacks more; says whether
+// One search from node s, which has a deficit. It goes on as long as no arc is used up and a deficit is left; says whether
 // something is moved.
 fn serve(arcs: &[u32], flows: &mut [u32], nodes: &mut [u32], room: &mut [u32], s: u32) -> bool {
     restart(nodes, room, s);
