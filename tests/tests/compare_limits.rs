@@ -1,5 +1,5 @@
-//! Sheets that just have a drawing, others that just have none, and those with the longest edges, drawn
-//! by the library and the second implementation.
+//! Sheets that just have a drawing, others that just have none, those about as large as the arrays for
+//! small sheets, and those with the longest edges, drawn by the library and the second implementation.
 
 mod library;
 
@@ -116,6 +116,18 @@ fn straight_edges_that_cross() {
     assert_eq!(tally.undrawn(), tally.sheets);
     assert_eq!(tally.without_width, tally.sheets);
     assert!(tally.undrawn() > 900);
+}
+
+#[test]
+fn sheets_about_as_large_as_small_arrays() {
+    let mut random = Random::new(137);
+    let mut tally = Tally::default();
+    for _ in 0..1_000 * scale() {
+        let draft = sizes::nearly_small(&mut random);
+        tally.add(&compare::sheet(&Proved, &draft.bytes()));
+    }
+    tally.print("about as large as small arrays");
+    assert_eq!(tally.drawn, tally.sheets);
 }
 
 #[test]

@@ -1,5 +1,5 @@
-//! Random sheets of medium and of full size, and with many parallel edges, and those with the longest
-//! edges; all have a drawing.
+//! Random sheets of medium and of full size, about as large as the arrays for small ones, and with many
+//! parallel edges, and those with the longest edges; all have a drawing.
 
 use crate::draft::Draft;
 use crate::planted::{planted, Plan};
@@ -30,6 +30,21 @@ pub fn medium(random: &mut Random) -> Draft {
     let layers = random.within(2..=20);
     let nodes = random.within(layers.max(20)..=80);
     let edges = random.within(20..=160);
+    let plan = any_plan(random, layers, nodes, edges);
+    planted(random, &plan)
+}
+
+/// A sheet with 95 to 97 arcs (an edge is one, a node has two), or with 47 to 49 nodes: about as large as
+/// the library's arrays for small sheets.
+pub fn nearly_small(random: &mut Random) -> Draft {
+    let (nodes, edges) = match random.index(2) {
+        0 => {
+            let nodes = random.within(10..=40);
+            (nodes, random.within(95..=97) - 2 * nodes)
+        }
+        _ => (random.within(47..=49), random.within(1..=60)),
+    };
+    let layers = random.within(2..=9);
     let plan = any_plan(random, layers, nodes, edges);
     planted(random, &plan)
 }
