@@ -39,16 +39,7 @@ fn draw_few(arcs: &[u32], counts: Counts, places: &mut [u16], list: &mut [i32]) 
 {
     let mut flows = [0u32; FEW_ARCS];
     let mut nodes = [0u32; FEW_NODE_NUMBERS];
-    let count = counts.arcs;
-    let room = NODE_STRIDE * (counts.nodes + 1);
-    draw_within(
-        arcs,
-        counts,
-        &mut flows[0..count],
-        &mut nodes[0..room],
-        places,
-        list,
-    )
+    draw_in(arcs, counts, &mut flows, &mut nodes, places, list)
 }
 
 // The same for the arcs of any sheet.
@@ -60,6 +51,24 @@ fn draw_many(arcs: &[u32], counts: Counts, places: &mut [u16], list: &mut [i32])
 {
     let mut flows = [0u32; MAX_ARCS];
     let mut nodes = [0u32; MAX_NODE_NUMBERS];
+    draw_in(arcs, counts, &mut flows, &mut nodes, places, list)
+}
+
+// The same with arrays that have room for the flows and the nodes.
+fn draw_in(
+    arcs: &[u32],
+    counts: Counts,
+    flows: &mut [u32],
+    nodes: &mut [u32],
+    places: &mut [u16],
+    list: &mut [i32],
+) -> u8
+    requires { ⌜ HoldsArcs (now arcs) counts ⌝ }
+    requires { ⌜ (counts .nodes ≤ length (now places)) × (counts .arcs ≤ length (now list)) ⌝ }
+    requires { ⌜ (counts .arcs ≤ length (now flows)) × (node-stride * (counts .nodes + 1) ≤ length (now nodes)) ⌝ }
+    ensures { λ r. ⌜ FillsHeld (now (arcs .entry)) counts (now (places .entry)) (now (list .entry))
+        (now (places .exit)) (now (list .exit)) r ⌝ }
+{
     let count = counts.arcs;
     let room = NODE_STRIDE * (counts.nodes + 1);
     draw_within(
@@ -72,7 +81,7 @@ fn draw_many(arcs: &[u32], counts: Counts, places: &mut [u16], list: &mut [i32])
     )
 }
 
-// The same with room to work in: a flow for each arc, and six numbers for each node and ground.
+// The same with just a flow for each arc, and six numbers for each node and ground.
 fn draw_within(
     arcs: &[u32],
     counts: Counts,
@@ -115,7 +124,7 @@ fn settle_few(arcs: &[u32], counts: Counts, flows: &mut [u32], nodes: &mut [u32]
     ensures { λ r. ⌜ Settles (now (arcs .entry)) counts (now (flows .exit)) (now (nodes .exit)) r ⌝ }
 {
     let mut room = [0u32; FEW_ROOM];
-    finding_refusal(leftmost::solve(arcs, flows, nodes, &mut room))
+    settle_in(arcs, counts, flows, nodes, &mut room)
 }
 
 // The same for the arcs of any sheet.
@@ -125,5 +134,21 @@ fn settle_many(arcs: &[u32], counts: Counts, flows: &mut [u32], nodes: &mut [u32
     ensures { λ r. ⌜ Settles (now (arcs .entry)) counts (now (flows .exit)) (now (nodes .exit)) r ⌝ }
 {
     let mut room = [0u32; MAX_ROOM];
-    finding_refusal(leftmost::solve(arcs, flows, nodes, &mut room))
+    settle_in(arcs, counts, flows, nodes, &mut room)
+}
+
+// The same in a room to solve in.
+fn settle_in(
+    arcs: &[u32],
+    counts: Counts,
+    flows: &mut [u32],
+    nodes: &mut [u32],
+    room: &mut [u32],
+) -> u8
+    requires { ⌜ HoldsArcs (now arcs) counts ⌝ }
+    requires { ⌜ (length (now flows) ≡ counts .arcs) × (length (now nodes) ≡ node-stride * (counts .nodes + 1)) ⌝ }
+    requires { ⌜ counts .nodes + 1 ≤ length (now room) ⌝ }
+    ensures { λ r. ⌜ Settles (now (arcs .entry)) counts (now (flows .exit)) (now (nodes .exit)) r ⌝ }
+{
+    finding_refusal(leftmost::solve(arcs, flows, nodes, room))
 }

@@ -1,19 +1,17 @@
--- `engine::stages::settle_few` meets its contract: the solver takes a sheet's packed arcs in the room for few, and answers a solution or that there is none.
+-- `engine::stages::settle_few` meets its contract: the room has a number for each node, since each node has two arcs.
+use Rattle.engine.proofs.laws.Fits.{twice-nodes}
 use native.Mathlib.Omega.{arith}
 use borrow.Author.Needs.{needs}
-use Rattle.engine.proofs.laws.Draw.{settles}
-use Rattle.engine.proofs.laws.Fits.{twice-nodes}
 use Rattle.engine.proofs.stages.settle_few.Statement.{statement}
 use Rattle.engine.proofs.stages.settle_few.Tie as tie
 
-slice-aggregate-solve : tie.Need-slice-aggregate-solve
-slice-aggregate-solve c = search needs
+slice-aggregate-settle-in : tie.Need-slice-aggregate-settle-in
+slice-aggregate-settle-in c = search needs
 
-solve-requires : tie.Need-solve-requires
-solve-requires c κs = search needs
-
-finding-refusal-requires : tie.Need-finding-refusal-requires
-finding-refusal-requires c κs = search needs
+settle-in-requires : tie.Need-settle-in-requires
+settle-in-requires c κs =
+    let start = c .before .before .before .before .before .before in
+    (start .pre .0, (start .pre .1 .0, omega (arith, twice-nodes (start .pre .0 .held), start .pre .1 .1)))
 
 same-length : tie.Need-same-length
 same-length c = search needs
@@ -22,20 +20,9 @@ same-length-2 : tie.Need-same-length-2
 same-length-2 c = search needs
 
 returns : tie.Need-returns
-returns c =
-    let start = c .before .before .before .before .before .before .before .before .before .before .before .before .before in
-    let solve = c .before .before .before .before .before .before .solve in
-    settles (start .pre .0 .held) (start .args .flows .now) (start .args .nodes .now) _ (solve .last .1 .0)
-    (solve .last .1 .1 .0) _ (solve .result) (c .finding-refusal .result) (start .pre .1 .0 .0) (start .pre .1 .0 .1)
-    (omega (arith, twice-nodes (start .pre .0 .held), start .pre .1 .1)) (solve .ensures) (c .finding-refusal .ensures)
+returns c = search needs
 
 pub settle-few-spec : {M : Type 1} → statement M
 settle-few-spec =
     tie.close
-    (tie.spec
-    slice-aggregate-solve
-    solve-requires
-    finding-refusal-requires
-    same-length
-    same-length-2
-    returns)
+    (tie.spec slice-aggregate-settle-in settle-in-requires same-length same-length-2 returns)
