@@ -1,5 +1,5 @@
--- The nodes as packed numbers, six to a node: potential, deficit, place in the order of reaching, parent, residual, and one that is not used. The last
--- node is ground.
+-- The nodes as packed numbers, six to a node: potential, deficit, place in the order of reaching, parent, residual, and one
+-- that is not used. The last node is ground.
 use Prim.Native.Nat.{ℕ, _+_, _*_, _/_}
 use mathlib.Core.List.{List}
 use lib.ListN.{length}

@@ -115,7 +115,7 @@ pub record Moved (n d : ℕ) (order p p′ : ℕ → ℕ) : Type 0 where
   pub moved : (v : ℕ) → v < n → p′ v ≡ lifted order p d v
   pub small : Small p′
 
--- a reached node is within 2 ^ 16 times its place in the order of the source
+-- a reached node is at most 2 ^ 16 times its place in the order away from the source
 pub record Near (n s : ℕ) (order p : ℕ → ℕ) : Type 0 where
   pub above : (v : ℕ) → v < n → 0 < order v → p v ≤ p s + kink-zero * order v
   pub below : (v : ℕ) → v < n → 0 < order v → p s ≤ p v + kink-zero * order v
