@@ -14,3 +14,11 @@ max-elements = stride * max-arcs
 -- the elements that the first nodes of the layers and the count of nodes take: 65
 abbrev pub max-firsts : ℕ
 max-firsts = max-layers + 1
+
+-- a small sheet has so many arcs at most
+abbrev pub few-arcs : ℕ
+few-arcs = 96
+
+-- and so many nodes: each node has two arcs
+abbrev pub few-nodes : ℕ
+few-nodes = 48

@@ -2,8 +2,8 @@
 use crate::Frame;
 use crate::Plan;
 use crate::layers::put_layers;
+use crate::limits::FEW_NODES;
 use crate::numbers::number;
-use crate::traces::FEW_NODES;
 use crate::traces::FEW_SLOTS;
 use crate::traces::SLOTS;
 use crate::traces::gather;
@@ -19,7 +19,8 @@ ghost use Rattle.drawing.specs.Sheet.{«sheet-of»};
 ghost use Rattle.drawing.specs.Arcs.{network};
 ghost use Rattle.drawing.specs.laws.Good.{Good};
 ghost use Rattle.arcs.specs.inside.Plans.{Planned, written};
-ghost use Rattle.arcs.specs.inside.Traces.{«few-nodes», Blank};
+ghost use Rattle.arcs.specs.Limits.{«few-nodes»};
+ghost use Rattle.arcs.specs.inside.Traces.{Blank};
 
 // Writes the arcs of a sheet into the front of the slice, in the order of the certificate (document 01's pull
 // list): the edges, then the layers.

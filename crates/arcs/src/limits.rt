@@ -12,3 +12,9 @@ pub const MAX_ELEMENTS: usize = STRIDE * MAX_ARCS;
 
 // The first node of each layer and the count of nodes: a slice of so many is long enough for every sheet.
 pub const MAX_FIRSTS: usize = MAX_LAYERS as usize + 1;
+
+// A small sheet has so many arcs at most: it has arrays of its own size, since clearing them is a part of the time.
+pub const FEW_ARCS: usize = 96;
+
+// And so many nodes: each node has two arcs.
+pub const FEW_NODES: usize = FEW_ARCS / 2;

@@ -2,6 +2,7 @@
 // its own strength, then every edge in turn takes that number and leaves 0.
 use crate::ReadEdge;
 use crate::edges::edge_at;
+use crate::limits::FEW_NODES;
 use crate::pack::put_arc;
 use crate::pack::strength_arc;
 use sheet::layout::EDGE_STRIDE;
@@ -27,10 +28,7 @@ const SLOTS_OF_NODE: usize = MAX_LAYER_NODES as usize;
 // The numbers of the large table, which serves every sheet.
 pub const SLOTS: usize = SLOTS_OF_NODE * MAX_NODES as usize;
 
-// How many nodes the small table has numbers for.
-pub const FEW_NODES: usize = 48;
-
-// The numbers of the small table.
+// The numbers of the small table, which serves small sheets.
 pub const FEW_SLOTS: usize = SLOTS_OF_NODE * FEW_NODES;
 
 // Every edge raises the number of its ends, the last edge first.

@@ -1,4 +1,6 @@
-// The room that drawing a sheet takes, and the smaller one of a sheet with few arcs: clearing it is a part of the time.
+// The room that drawing a sheet takes, and that of a small sheet.
+use arcs::limits::FEW_ARCS;
+use arcs::limits::FEW_NODES;
 use arcs::limits::MAX_ARCS;
 use circulation::layout::NODE_STRIDE;
 use guess::layout::STACK_COUNT;
@@ -15,14 +17,11 @@ pub const MAX_NODE_NUMBERS: usize = NODE_STRIDE * MAX_GROUNDED;
 // The room to solve in, with which solving is fast, for so many nodes and the arcs of a sheet.
 pub const MAX_ROOM: usize = STACKS + STACK_COUNT * MAX_GROUNDED + 2 * MAX_ARCS;
 
-// Few arcs are so many at most.
-pub const FEW_ARCS: usize = 96;
-
 // The numbers of few arcs.
 pub const FEW_ELEMENTS: usize = STRIDE * FEW_ARCS;
 
-// The nodes of a sheet with few arcs, with ground: each node has two arcs or more.
-pub const FEW_GROUNDED: usize = FEW_ARCS / 2 + 1;
+// The nodes of a small sheet with ground.
+pub const FEW_GROUNDED: usize = FEW_NODES + 1;
 
 // The numbers of so many nodes.
 pub const FEW_NODE_NUMBERS: usize = NODE_STRIDE * FEW_GROUNDED;

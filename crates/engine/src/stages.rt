@@ -1,5 +1,4 @@
 // The stages of drawing a sheet's packed arcs: flows and the leftmost least potentials, then places and list.
-use crate::limits::FEW_ARCS;
 use crate::limits::FEW_NODE_NUMBERS;
 use crate::limits::FEW_ROOM;
 use crate::limits::MAX_NODE_NUMBERS;
@@ -8,13 +7,15 @@ use crate::refusals::finding_refusal;
 use crate::results::put_list;
 use crate::results::put_places;
 use arcs::Counts;
+use arcs::limits::FEW_ARCS;
 use arcs::limits::MAX_ARCS;
 use circulation::layout::NODE_STRIDE;
 ghost use mathlib.Core.Path.{_≡_};
 ghost use Prim.Native.Nat.{_+_, _*_, _≤_};
 ghost use lib.ListN.{length};
 ghost use Rattle.circulation.specs.Nodes.{«node-stride»};
-ghost use Rattle.engine.specs.inside.Stages.{«few-arcs», HoldsArcs, FillsHeld, Lent, Settles};
+ghost use Rattle.arcs.specs.Limits.{«few-arcs»};
+ghost use Rattle.engine.specs.inside.Stages.{HoldsArcs, FillsHeld, Lent, Settles};
 
 // Fills places and list. Answers the refusal's number, 0 where nothing is refused; the total is left to the caller.
 pub fn draw_arcs(arcs: &[u32], counts: Counts, places: &mut [u16], list: &mut [i32]) -> u8

@@ -39,10 +39,6 @@ strongest es e = greatest-parallel strength e es
 abbrev pub left-over : List Edge → List Edge → Edge → ℕ
 left-over es before e = cond (any-parallel e before) 0 (strongest es e)
 
--- how many nodes the small table has numbers for
-abbrev pub few-nodes : ℕ
-few-nodes = 48
-
 -- the index of two ends in the table
 abbrev pub slot-of : ℕ → ℕ → ℕ
 slot-of upper lower = max-layer-nodes * upper + lower % max-layer-nodes

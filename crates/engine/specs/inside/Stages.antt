@@ -17,10 +17,6 @@ use Rattle.arcs.specs.laws.HeldArcs.{Holds}
 use Rattle.engine.specs.Refusals.{no-drawing}
 use Rattle.engine.specs.Draws.{Drawn, DrawsSheet}
 
--- so many arcs are few
-abbrev pub few-arcs : ℕ
-few-arcs = 96
-
 -- the contract of drawing, for the sheet whose first nodes and packed arcs are held
 abbrev pub DrawsHeld : (f a : List ℕ) (c : Counts) (p₀ : List ℕ) (y₀ : List ℤ) (p : List ℕ) (y : List ℤ) → Drawn → Type 0
 DrawsHeld f a c p₀ y₀ p y d = (h : Holds f a c) → DrawsSheet (sheet-of (h .numbers)) p₀ y₀ p y d

@@ -4,7 +4,7 @@ use mathlib.Core.Path.{refl}
 use native.Mathlib.Omega.{arith}
 use borrow.Author.Needs.{needs}
 use Rattle.sheet.specs.Limits.{max-layer-nodes}
-use Rattle.arcs.specs.inside.Traces.{few-nodes}
+use Rattle.arcs.specs.Limits.{few-nodes}
 use Rattle.arcs.proofs.fill.fill_few.Statement.{statement}
 use Rattle.arcs.proofs.fill.fill_few.Tie as tie
 
