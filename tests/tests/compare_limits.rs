@@ -120,13 +120,8 @@ fn straight_edges_that_cross() {
 
 #[test]
 fn sheets_about_as_large_as_small_arrays() {
-    let mut random = Random::new(137);
-    let mut tally = Tally::default();
-    for _ in 0..1_000 * scale() {
-        let draft = sizes::nearly_small(&mut random);
-        tally.add(&compare::sheet(&Proved, &draft.bytes()));
-    }
-    tally.print("about as large as small arrays");
+    let kind = "about as large as small arrays";
+    let tally = Tally::of_random(&Proved, kind, (137, 1_000), sizes::nearly_small);
     assert_eq!(tally.drawn, tally.sheets);
 }
 
