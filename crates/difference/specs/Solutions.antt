@@ -1,8 +1,8 @@
 -- What the call answers: the lowest potentials of the network that the packed arcs are, or that it has none.
 use Prim.Native.Nat.{ℕ, _-_, _*_, _≤_, _<_}
 use mathlib.Core.Path.{_≡_}
-use mathlib.Core.List.{List}
-use lib.ListN.{length, take}
+use mathlib.Core.List.{List, _++_}
+use lib.ListN.{length, take, drop, replicate}
 use Rattle.network.specs.Network.{Network, Feasible, integers}
 use Rattle.network.specs.Net.{at, Net, meant}
 use Rattle.network.specs.Limits.{kink-size}
@@ -34,10 +34,6 @@ pub record Solves (N : Net) (n : ℕ) (values : List ℕ) : Type 0 where
   pub small : (u : ℕ) → u < n → at values u ≤ n * kink-size
   pub lowest : Lowest (meant N n) (potentials n values)
 
--- the first n values are 0
-pub record Cleared (n : ℕ) (values : List ℕ) : Type 0 where
-  pub zero : (u : ℕ) → u < n → at values u ≡ 0
-
 -- what is found: the lowest potentials; that there are none, an answer and no refusal; or input that is not taken
 pub data Finding : Type 0 where
   solved : Finding
@@ -50,8 +46,8 @@ finding Solved = Finding.solved
 finding NoSolution = Finding.none
 finding Malformed = Finding.malformed
 
--- what each finding says, with the values before and after
+-- what each finding says, with the values before and after; where there are no potentials the first n values are 0
 abbrev pub Means : Net → ℕ → List ℕ → List ℕ → Finding → Type 0
 Means N n old new Finding.solved = Taken N n old × RestKept n old new × Solves N n new
-Means N n old new Finding.none = Taken N n old × RestKept n old new × Cleared n new × NoneFeasible (meant N n)
+Means N n old new Finding.none = Taken N n old × (new ≡ replicate n 0 ++ drop n old) × NoneFeasible (meant N n)
 Means N n old new Finding.malformed = (Taken N n old → ⊥) × (new ≡ old)

@@ -3,7 +3,7 @@
 use Prim.Native.Nat.{ℕ, _≤_}
 use mathlib.Core.Path.{_≡_}
 use mathlib.Core.List.{List}
-use lib.ListN.{length}
+use lib.ListN.{length, replicate}
 use Rattle.network.specs.Network.{Network, Feasible, integers}
 use Rattle.network.specs.Net.{at, Net, meant}
 use Rattle.circulation.specs.Nodes.{size, potentials}
@@ -22,15 +22,10 @@ pub record SomeFeasible (M : Network) : Type 0 where
   pub start : List ℕ
   pub feasible : Feasible M (integers start)
 
--- every number is 0
-pub record Zeros (old new : List ℕ) : Type 0 where
-  pub size : length new ≡ length old
-  pub zero : (i : ℕ) → at new i ≡ 0
-
 -- the other numbers of each node are 0, what stands behind the last node is kept, and every number of room is 0
 pub record Cleared (nodes₀ nodes room₀ room : List ℕ) : Type 0 where
   pub in-nodes : NodesCleared nodes₀ nodes
-  pub in-room : Zeros room₀ room
+  pub in-room : room ≡ replicate (length room₀) 0
 
 -- what is found: the leftmost least potentials; that none are feasible, an answer and no refusal; or input that is not taken
 pub data Finding : Type 0 where
@@ -50,6 +45,7 @@ Means N x₀ nodes₀ room₀ x nodes room Finding.solved =
     Taken N (size nodes₀) (length room₀) × SomeFeasible (meant N (size nodes₀)) × (length x ≡ length x₀)
     × Cleared nodes₀ nodes room₀ room × Solution N (size nodes₀) (at x) (at (potentials nodes))
 Means N x₀ nodes₀ room₀ x nodes room Finding.none =
-    Taken N (size nodes₀) (length room₀) × (SomeFeasible (meant N (size nodes₀)) → ⊥) × (x ≡ x₀) × (nodes ≡ nodes₀) × Zeros room₀ room
+    Taken N (size nodes₀) (length room₀) × (SomeFeasible (meant N (size nodes₀)) → ⊥) × (x ≡ x₀) × (nodes ≡ nodes₀)
+    × (room ≡ replicate (length room₀) 0)
 Means N x₀ nodes₀ room₀ x nodes room Finding.malformed =
     (Taken N (size nodes₀) (length room₀) → ⊥) × (x ≡ x₀) × (nodes ≡ nodes₀) × (room ≡ room₀)

@@ -23,3 +23,4 @@ pub mod Hanging
 pub mod PackedLegal
 pub mod SumsTo
 pub mod TestedAnswers
+pub mod Zeros

@@ -8,9 +8,9 @@ use crate::layout::STRIDE;
 use crate::limits::MAX_ARCS;
 use crate::limits::MAX_NODES;
 ghost use mathlib.Core.Path.{_≡_};
-ghost use Prim.Native.Nat.{ℕ};
+ghost use lib.ListN.{length, replicate};
 ghost use Rattle.network.specs.Tested.{Tested};
-ghost use Rattle.network.specs.Net.{at, net};
+ghost use Rattle.network.specs.Net.{net};
 ghost use Rattle.network.specs.WellFormed.{WellFormed};
 
 // Whether the first arcs, so many, are packed arcs between so many nodes, of which the last is ground.
@@ -34,7 +34,7 @@ pub fn well_formed(arcs: &[u32], count: usize, nodes: usize) -> bool
 
 // Every number is 0.
 pub fn clear(numbers: &mut [u32])
-    ensures { λ _. ⌜ ((i : ℕ) → at (now (numbers .exit)) i ≡ 0) ⌝ }
+    ensures { λ _. ⌜ now (numbers .exit) ≡ replicate (length (now (numbers .entry))) 0 ⌝ }
 {
     let mut i = 0;
     while i < numbers.len() {

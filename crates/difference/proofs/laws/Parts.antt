@@ -4,7 +4,7 @@ use Rattle.network.specs.Net.{at, Net, meant}
 use Rattle.network.specs.WellFormed.{WellFormed}
 use Rattle.difference.specs.Input.{Taken}
 use Rattle.difference.specs.inside.Constraints.{Least, None}
-use Rattle.difference.specs.Solutions.{Finding, Lowest, RestKept, Solves, Cleared, Means}
+use Rattle.difference.specs.Solutions.{Finding, Lowest, RestKept, Solves, Means}
 use Rattle.difference.specs.inside.Steps.{Ran}
 use Rattle.difference.specs.laws.Meaning.{least-lowest, none-feasible}
 use mathlib.Core.Path.{_≡_, ap, _∙_, sym, subst}
@@ -13,7 +13,7 @@ use mathlib.Core.List.{List, _++_}
 use Prim.Native.Nat.{ℕ, _+_, _-_, _≤_}
 use native.Mathlib.Omega.{arith}
 use borrow.Rule.Slice.PartMut.{postOf, post-is}
-use lib.ListN.{length, take, drop, length-take, length-drop, length-append, List·getD-append}
+use lib.ListN.{length, take, drop, replicate, length-take, length-drop, length-append, List·getD-append}
 use lib.Seq.{take-append-le, getD-append-add, getD-drop}
 
 -- what is behind the part is kept
@@ -58,13 +58,9 @@ module _ {N : Net} {n : ℕ} {v₀ : List ℕ} (taken : Taken N n v₀) (w : Lis
       let least : Least N n w = rw (e, part-size) at m in
       rw put-back (taken, rest-kept n w v₀ (size ∙ part-size) (taken .values-room), solves least)
 
-  -- the first values are 0
-  cleared : None N n × ((u : ℕ) → at w u ≡ 0) → Cleared n (w ++ drop n v₀)
-  cleared none = record { zero = λ u u-in. List·getD-append w (drop n v₀) 0 u (omega (arith, size, part-size)) ∙ none .1 u }
-
   -- the answer where they found none
   pub none-back : (r : Bool) → r ≡ false → Ran N (length (take (n - 0) v₀)) w r
       → Means N n v₀ (w ++ postOf 0 (n - 0) v₀) Finding.none
   none-back r e m =
-      let none : None N n × ((u : ℕ) → at w u ≡ 0) = rw (e, part-size) at m in
-      rw put-back (taken, rest-kept n w v₀ (size ∙ part-size) (taken .values-room), cleared none, none-feasible (taken .wf) (none .0))
+      let none : None N n × (w ≡ replicate n 0) = rw (e, part-size) at m in
+      rw put-back (taken, ap (λ (l : List ℕ). l ++ drop n v₀) (none .1), none-feasible (taken .wf) (none .0))

@@ -3,7 +3,7 @@ use mathlib.Core.Path.{_≡_}
 use mathlib.Core.Bool.{Bool, true, false}
 use mathlib.Core.List.{List}
 use Prim.Native.Nat.{ℕ, _+_, _-_, _≤_, _<_}
-use lib.ListN.{length, set}
+use lib.ListN.{length, set, replicate}
 use Rattle.difference.specs.declared.Found.the-variants.{Same, Changed, Stuck}
 use Rattle.network.specs.Net.{at, Net}
 use Rattle.difference.specs.inside.Constraints.{Risen, Grew, Least, None}
@@ -44,4 +44,4 @@ Swept N n v false = None N n
 -- the same, and where none exists every value is 0
 abbrev pub Ran : Net → ℕ → List ℕ → Bool → Type 0
 Ran N n v true = Least N n v
-Ran N n v false = None N n × ((u : ℕ) → at v u ≡ 0)
+Ran N n v false = None N n × (v ≡ replicate n 0)

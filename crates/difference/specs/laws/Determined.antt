@@ -17,9 +17,9 @@ module _ (N : Net) (n : ℕ) (v₀ v v′ : List ℕ) where
   -- the finding
   pub one-finding : (r r′ : Finding) → Means N n v₀ v r → Means N n v₀ v′ r′ → r ≡ r′
   one-finding solved solved m m′ = refl
-  one-finding solved none m m′ = absurd (m′ .3 (potentials n v) (m .2 .lowest .feasible))
+  one-finding solved none m m′ = absurd (m′ .2 (potentials n v) (m .2 .lowest .feasible))
   one-finding solved malformed m m′ = absurd (m′ .0 (m .0))
-  one-finding none solved m m′ = absurd (m .3 (potentials n v′) (m′ .2 .lowest .feasible))
+  one-finding none solved m m′ = absurd (m .2 (potentials n v′) (m′ .2 .lowest .feasible))
   one-finding none none m m′ = refl
   one-finding none malformed m m′ = absurd (m′ .0 (m .0))
   one-finding malformed solved m m′ = absurd (m .0 (m′ .0))

@@ -2,6 +2,7 @@
 -- solution.
 use Prim.Native.Nat.{ℕ, _+_, _-_, _<_}
 use mathlib.Core.Path.{_≡_, sym, subst}
+use lib.ListN.{length, replicate}
 use mathlib.Core.List.{List}
 use native.Mathlib.Omega.{arith}
 use Rattle.network.specs.Net.{at, Net, arcs}
@@ -64,7 +65,7 @@ module _ {N : Net} {n : ℕ} {x : List ℕ} (nodes : List ℕ) (size-is : size n
   }
 
   -- and is then a solution
-  pub passes-left : (new room : List ℕ) → Limited N → Settled nodes new → Zeroed node-stride new → ((i : ℕ) → at room i ≡ 0)
+  pub passes-left : (new room : List ℕ) → Limited N → Settled nodes new → Zeroed node-stride new → room ≡ replicate (length room) 0
       → Left N n x new room
   passes-left new room limited settled zeroed zeros = record {
     solution = settled-solution x nodes new wf limited size-is (p .optimal) settled;

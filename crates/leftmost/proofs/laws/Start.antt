@@ -4,7 +4,7 @@ use mathlib.Core.Path.{_≡_, sym, _∙_, ap, subst}
 use mathlib.Core.List.{List}
 use native.Mathlib.Decide.{ℕ-discrete, decLt}
 use native.Mathlib.Omega.{arith}
-use lib.ListN.{length, take, length-take, List·getD-eq-default}
+use lib.ListN.{length, take, replicate, length-take, List·getD-eq-default}
 use lib.Seq.{getD-take}
 use Rattle.network.specs.Net.{at, Net, meant}
 use Rattle.difference.specs.Solutions.{RestKept, Solves, finding as difference-finding, Means as DifferenceMeans}
@@ -16,7 +16,7 @@ use Rattle.circulation.specs.Solutions.{Solution, Cleared as NodesCleared, find
 use Rattle.circulation.specs.laws.Feasible.{feasible-stored}
 use Rattle.circulation.specs.declared.Answer as circulation
 use Rattle.circulation.specs.declared.Answer.the-variants as circulated
-use Rattle.leftmost.specs.Solutions.{Taken, SomeFeasible, Zeros, Finding, Means}
+use Rattle.leftmost.specs.Solutions.{Taken, SomeFeasible, Finding, Means}
 use Rattle.leftmost.specs.inside.Potentials.{potentials-to}
 use Rattle.leftmost.proofs.laws.Potentials.{ready, size-same, potential-is, potential-behind, potentials-length, behind-same}
 
@@ -63,7 +63,7 @@ cleared-before nodes₀ nodes₁ nodes size-is behind m = record {
   rest = λ i past. m .rest i (omega arith) ∙ behind i past;
 }
 
-module _ {N : Net} (x₀ nodes₀ room₀ x nodes room : List ℕ) (taken : Taken N (size nodes₀) (length room₀)) (zeros : Zeros room₀ room) where
+module _ {N : Net} (x₀ nodes₀ room₀ x nodes room : List ℕ) (taken : Taken N (size nodes₀) (length room₀)) (zeros : room ≡ replicate (length room₀) 0) where
   -- what the solver of flows leaves from there is the answer: it is never malformed
   left-from : (values : List ℕ) (r : circulation.Answer) → RestKept (size nodes₀) room₀ values → Solves N (size nodes₀) values
       → CirculationMeans N x₀ (ready values nodes₀) x nodes (flow-finding r)
@@ -90,7 +90,7 @@ module _ {N : Net} (x₀ nodes₀ room₀ x nodes room : List ℕ) (taken : Take
   solved-from values started found.Solved r some d e m =
       left-from values r (d .1) (d .2)
       (subst (λ (l : List ℕ). CirculationMeans N x₀ l x nodes (flow-finding r)) e m)
-  solved-from values started found.NoSolution r some d e m = absurd (d .3 (some .start) (some .feasible))
+  solved-from values started found.NoSolution r some d e m = absurd (d .2 (some .start) (some .feasible))
   solved-from values started found.Malformed r some d e m =
       absurd (d .0 (record { wf = taken .arcs-in .wf; values-room = taken .room-in }))
 
@@ -113,7 +113,7 @@ solved-before {N} x₀ nodes₀ room₀ x₁ nodes₁ room₁ x nodes room x-siz
   m .2 ∙ x-size,
   record {
     in-nodes = cleared-before nodes₀ nodes₁ nodes nodes-size behind (m .3 .in-nodes);
-    in-room = record { size = m .3 .in-room .size ∙ room-size; zero = m .3 .in-room .zero };
+    in-room = m .3 .in-room ∙ ap (λ (k : ℕ). replicate k 0) room-size;
   },
   subst (λ (n : ℕ). Solution N n (at x) (at (potentials nodes))) same (m .4),
 )

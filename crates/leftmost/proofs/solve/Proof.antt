@@ -7,6 +7,7 @@ use Rattle.network.specs.Net.{at}
 use borrow.Author.Tests.{not-true, not-false}
 use Prim.Native.Nat.{ℕ}
 use mathlib.Core.List.{List}
+use lib.ListN.{replicate}
 use mathlib.Core.Path.{refl, _∙_, ap}
 use native.Mathlib.Omega.{arith}
 use borrow.Author.Needs.{needs}
@@ -84,10 +85,10 @@ returns-3 c =
         arcs-in = tested-yes (takes .result) (takes .ensures) (not-false (takes .result) (if1 .left));
         room-in = m .0 .values-room;
       },
-      λ s. m .3 (s .start) (s .feasible),
+      λ s. m .2 (s .start) (s .feasible),
       refl,
       refl,
-      record { size = clear .kept .0 ∙ least .kept .1 .1 .1 .0; zero = clear .ensures },
+      clear .ensures ∙ ap (λ (n : ℕ). replicate n 0) (least .kept .1 .1 .1 .0),
     )
 
 same-length-3 : tie.Need-same-length-3

@@ -7,10 +7,10 @@ use Rattle.circulation.specs.Input.{ArcsTaken}
 use Rattle.circulation.specs.Nodes.{node-stride, size}
 use Rattle.network.specs.Net.{net}
 use borrow.Rule.Slice.PartMut.{postOf}
-use lib.ListN.{length}
+use lib.ListN.{length, replicate}
 use Prim.Native.Nat.{ℕ, _-_, _*_}
 use mathlib.Core.List.{List, _++_}
-use mathlib.Core.Path.{refl, sym, subst}
+use mathlib.Core.Path.{refl, sym, _∙_, ap, subst}
 use borrow.Author.Needs.{needs}
 use Rattle.leftmost.proofs.solve_feasible.Statement.{statement}
 use Rattle.leftmost.proofs.solve_feasible.Tie as tie
@@ -56,7 +56,7 @@ returns c =
       start .pre .0,
       start .pre .1,
       attempt .kept .1 .0,
-      record { in-nodes = back .0; in-room = record { size = attempt .kept .1 .1 .1 .0; zero = left .room-zero } },
+      record { in-nodes = back .0; in-room = left .room-zero ∙ ap (λ (k : ℕ). replicate k 0) (attempt .kept .1 .1 .1 .0) },
       back .1,
     )
 

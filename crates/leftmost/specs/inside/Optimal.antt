@@ -1,6 +1,7 @@
 -- What the test of a guess looks at, and what is left of a guess that passes.
 use Prim.Native.Nat.{ℕ, _-_, _≤_, _<_}
 use mathlib.Core.Path.{_≡_}
+use lib.ListN.{length, replicate}
 use mathlib.Core.List.{List}
 use Rattle.network.specs.Net.{at, Net, arcs, low, high, stands, asks}
 use Rattle.circulation.specs.Nodes.{node-stride, deficit-zero, size, potentials, deficits, orders}
@@ -42,4 +43,4 @@ pub record Passes (N : Net) (n : ℕ) (x nodes : List ℕ) : Type 0 where
 pub record Left (N : Net) (n : ℕ) (x nodes room : List ℕ) : Type 0 where
   pub solution : Solution N n (at x) (at (potentials nodes))
   pub others : Zeroed node-stride nodes
-  pub room-zero : (i : ℕ) → at room i ≡ 0
+  pub room-zero : room ≡ replicate (length room) 0

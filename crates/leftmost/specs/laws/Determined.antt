@@ -3,10 +3,9 @@
 use Prim.Native.Nat.{ℕ}
 use mathlib.Core.Path.{_≡_, refl, sym, _∙_}
 use mathlib.Core.List.{List}
-use lib.Seq.{ext-getD}
 use Rattle.network.specs.Net.{Net}
 use Rattle.circulation.specs.laws.Determined.{solved-nodes}
-use Rattle.leftmost.specs.Solutions.{Zeros, Finding, Means}
+use Rattle.leftmost.specs.Solutions.{Finding, Means}
 use Rattle.leftmost.specs.Solutions.Finding.{solved, none, malformed}
 
 module _ (N : Net) (x₀ nodes₀ room₀ x nodes room y other rest : List ℕ) where
@@ -22,16 +21,12 @@ module _ (N : Net) (x₀ nodes₀ room₀ x nodes room y other rest : List ℕ) 
   one-finding malformed none m k = absurd (m .0 (k .0))
   one-finding malformed malformed m k = refl
 
-  -- what is 0 everywhere is the same
-  zeros-same : Zeros room₀ room → Zeros room₀ rest → room ≡ rest
-  zeros-same m k = ext-getD 0 room rest (m .size ∙ sym (k .size)) (λ i l. m .zero i ∙ sym (k .zero i))
-
   -- nodes and room are the same
   pub one-end : (r : Finding) → Means N x₀ nodes₀ room₀ x nodes room r → Means N x₀ nodes₀ room₀ y other rest r
       → (nodes ≡ other) × (room ≡ rest)
   one-end solved m k = (
     solved-nodes N x₀ nodes₀ x nodes y other (m .3 .in-nodes) (k .3 .in-nodes) (m .4) (k .4),
-    zeros-same (m .3 .in-room) (k .3 .in-room),
+    m .3 .in-room ∙ sym (k .3 .in-room),
   )
-  one-end none m k = (m .3 ∙ sym (k .3), zeros-same (m .4) (k .4))
+  one-end none m k = (m .3 ∙ sym (k .3), m .4 ∙ sym (k .4))
   one-end malformed m k = (m .2 ∙ sym (k .2), m .3 ∙ sym (k .3))

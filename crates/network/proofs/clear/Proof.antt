@@ -1,10 +1,11 @@
 -- `network::clear` meets its contract. The numbers before i are 0.
-use Rattle.network.proofs.laws.Zeros.{zeros-more, zeros-all}
-use lib.ListN.{length, getD}
+use Rattle.network.specs.laws.Zeros.{zeros-are}
+use Rattle.network.proofs.laws.Zeros.{zeros-more}
+use lib.ListN.{length, getD, replicate}
 use borrow.Author.Count.{below-none}
 use native.Mathlib.Omega.{arith}
 use Prim.Native.Nat.{ℕ, _≤_, _<_, _-_}
-use mathlib.Core.Path.{_≡_}
+use mathlib.Core.Path.{_≡_, _∙_, ap}
 use borrow.Author.Needs.{needs}
 use Rattle.network.proofs.clear.Statement.{statement}
 use Rattle.network.proofs.clear.Tie as tie
@@ -42,7 +43,10 @@ same-length : tie.Need-same-length Inv-loop μ-loop
 same-length c = search needs
 
 returns : tie.Need-returns Inv-loop μ-loop
-returns c = zeros-all (c .before .loop .numbers) (λ k l. c .before .loop .inv .2 k (omega (arith, c .loop-test .left)))
+returns c =
+    let numbers = c .before .loop .numbers in
+    zeros-are numbers (λ k l. c .before .loop .inv .2 k (omega (arith, c .loop-test .left)))
+    ∙ ap (λ (n : ℕ). replicate n 0) (c .before .loop .inv .1)
 
 pub clear-spec : {M : Type 1} → statement M
 clear-spec =

@@ -1,5 +1,8 @@
 -- `difference::sweep::run` meets its contract: what the passes find, and 0 everywhere where they find nothing.
 use Rattle.difference.proofs.laws.Runs.{ran-solved}
+use Prim.Native.Nat.{ℕ}
+use mathlib.Core.Path.{_∙_, ap}
+use lib.ListN.{replicate}
 use borrow.Author.Needs.{needs}
 use Rattle.difference.proofs.sweep.run.Statement.{statement}
 use Rattle.difference.proofs.sweep.run.Tie as tie
@@ -23,7 +26,7 @@ returns-2 : tie.Need-returns-2
 returns-2 c =
     let sweep = c .before .before .before .before .before .before .before .sweep in
     let if1 = c .before .before .before .before .if1 in
-    (rw (if1 .left) at (sweep .ensures), c .before .before .clear .ensures)
+    (rw (if1 .left) at (sweep .ensures), c .before .before .clear .ensures ∙ ap (λ (n : ℕ). replicate n 0) (sweep .kept .1 .1 .0))
 
 pub run-spec : {M : Type 1} → statement M
 run-spec =

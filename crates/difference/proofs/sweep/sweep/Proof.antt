@@ -1,6 +1,7 @@
 -- `difference::sweep::sweep` meets its contract. `Running` holds before each pass; after as many passes as nodes that
 -- raise a value no solution is left.
 use Rattle.network.specs.Net.{net}
+use Rattle.network.specs.laws.Zeros.{zeros-at}
 use Rattle.difference.proofs.laws.Runs.{Running, begins, changed, solved, stops, over}
 use lib.ListN.{length}
 use Prim.Native.Nat.{_-_}
@@ -22,7 +23,7 @@ loop-holds : tie.Need-loop-holds Inv-loop μ-loop
 loop-holds c =
     let start = c .before .before .before .before .before .before in
     let clear = c .before .before .clear in
-    begins (clear .last .0) refl (rw (clear .kept .0) (start .pre)) (clear .ensures)
+    begins (clear .last .0) refl (rw (clear .kept .0) (start .pre)) (zeros-at (length (start .args .values .now)) (clear .ensures))
 
 pass-requires : tie.Need-pass-requires Inv-loop μ-loop
 pass-requires c κs = c .before .before .loop .inv .ready

@@ -76,7 +76,7 @@ returns-2 c =
     let least = c .before .before .before .before .least in
     let set-width = c .before .before .before .before .before .before .before .before .before .set-width in
     let m = rw (c .before .enum-told2 .given .1) at (least .ensures) in
-    none-held (set-width .ensures) (m .3) (c .no-width .ensures)
+    none-held (set-width .ensures) (m .2) (c .no-width .ensures)
 
 same-length-3 : tie.Need-same-length-3
 same-length-3 c = search needs

@@ -3,7 +3,8 @@ use Rattle.leftmost.proofs.laws.Passes.{passes-grounded, passes-left}
 use Rattle.leftmost.proofs.laws.Shown.{shown-past}
 use Rattle.circulation.specs.Nodes.{node-stride}
 use Prim.Native.Nat.{ℕ, _/_}
-use mathlib.Core.Path.{ap}
+use mathlib.Core.Path.{sym, _∙_, ap}
+use lib.ListN.{replicate}
 use borrow.Author.Needs.{needs}
 use Rattle.leftmost.proofs.attempt.attempt.Statement.{statement}
 use Rattle.leftmost.proofs.attempt.attempt.Tie as tie
@@ -63,7 +64,8 @@ returns-2 c =
     (passes-left (optimal .last .1 .1 .0) (ap (λ (k : ℕ). k / node-stride) (optimal .kept .1 .1 .0))
     (rw (guess .kept .1 .0, guess .kept .1 .1 .0) (start .pre .wf))
     (shown-past (optimal .result) (optimal .ensures) (if1 .left)) (finish .last .0)
-    (clear .last .0) (rw (guess .kept .1 .0) (start .pre .limited)) (finish .ensures .0) (finish .ensures .1) (clear .ensures))
+    (clear .last .0) (rw (guess .kept .1 .0) (start .pre .limited)) (finish .ensures .0) (finish .ensures .1)
+    (clear .ensures ∙ ap (λ (k : ℕ). replicate k 0) (sym (clear .kept .0))))
 
 pub attempt-spec : {M : Type 1} → statement M
 attempt-spec =

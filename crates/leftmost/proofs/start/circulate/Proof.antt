@@ -1,6 +1,8 @@
 -- `leftmost::start::circulate` meets its contract: the least solution of the hard constraints is a start for the solver of flows.
 use Rattle.leftmost.proofs.laws.Start.{solved-from}
-use mathlib.Core.Path.{_∙_}
+use Prim.Native.Nat.{ℕ}
+use mathlib.Core.Path.{_∙_, ap}
+use lib.ListN.{replicate}
 use borrow.Author.Needs.{needs}
 use Rattle.leftmost.proofs.start.circulate.Statement.{statement}
 use Rattle.leftmost.proofs.start.circulate.Tie as tie
@@ -35,7 +37,7 @@ returns c =
     let clear = c .before .before .clear in
     solved-from (start .args .flows .now) (start .args .nodes .now) (start .args .room .now) (solve .last .1 .0)
     (solve .last .1 .1 .0) (clear .last .0) (start .pre .0)
-    (record { size = clear .kept .0 ∙ least .kept .1 .1 .1 .0; zero = clear .ensures }) (least .last .1 .1 .1 .0) (set .last .1 .1 .0)
+    (clear .ensures ∙ ap (λ (n : ℕ). replicate n 0) (least .kept .1 .1 .1 .0)) (least .last .1 .1 .1 .0) (set .last .1 .1 .0)
     (least .result) (solve .result) (start .pre .1) (least .ensures) (set .ensures) (solve .ensures)
 
 pub circulate-spec : {M : Type 1} → statement M
