@@ -8,11 +8,13 @@ use crate::signed::same;
 use crate::signed::signed;
 use arcs::Counts;
 use network::layout::STRIDE;
-use totals::total;
+use sheet::limits::MAX_LAYERS;
 ghost use mathlib.Core.Path.{_≡_};
-ghost use Prim.Native.Nat.{_≤_};
+ghost use Prim.Native.Nat.{_≤_, min};
 ghost use lib.ListN.{length, take};
+ghost use Rattle.arcs.specs.Words.{«u32-most»};
 ghost use Rattle.arcs.specs.laws.HeldArcs.{Holds};
+ghost use Rattle.totals.specs.Lengths.{«lengths-of»};
 ghost use Rattle.checker.specs.inside.Table.{«table-decision»};
 
 // Places that are a drawing, a list that meets the rules, and the bound equal to the total.
@@ -46,4 +48,12 @@ pub fn judge(arcs: &[u32], first: &[u16], places: &[u16], list: &[i32], counts: 
     let nodes = counts.nodes;
     let n = counts.arcs;
     judge_whole(arcs, first, &places[0..nodes], &list[0..n], counts)
+}
+
+// The total of a sheet's packed edges, with room for the sum after each layer.
+fn total(edges: &[u32], first: &[u16], places: &[u16]) -> u32
+    ensures { λ r. ⌜ r ≡ min u32-most (lengths-of (now (places .entry)) (now (edges .entry))) ⌝ }
+{
+    let mut sums = [0u32; MAX_LAYERS as usize];
+    totals::total(edges, first, places, &mut sums)
 }

@@ -18,9 +18,13 @@ use arcs::limits::MAX_FIRSTS;
 use leb128::Refusal;
 use leb128::refusals::SLICE_SHORT;
 use network::layout::STRIDE;
-use totals::total;
+use sheet::limits::MAX_LAYERS;
+ghost use mathlib.Core.Path.{_≡_};
+ghost use Prim.Native.Nat.{min};
 ghost use Rattle.sheet.specs.Reading.{«read-sheet»};
+ghost use Rattle.arcs.specs.Words.{«u32-most»};
 ghost use Rattle.arcs.specs.laws.HeldArcs.{Holds};
+ghost use Rattle.totals.specs.Lengths.{«lengths-of»};
 ghost use Rattle.engine.specs.Draws.{result, Draws};
 ghost use Rattle.engine.specs.MinimumWidth.{narrowing, Narrows};
 ghost use Rattle.engine.specs.inside.Stages.{DrawsHeld};
@@ -110,4 +114,12 @@ fn draw_loaded(
     let layers = counts.layers;
     let placed = counts.nodes;
     Answer::Drawn(total(&arcs[0..end], &first[0..layers], &places[0..placed]))
+}
+
+// The total of a sheet's packed edges, with room for the sum after each layer.
+fn total(edges: &[u32], first: &[u16], places: &[u16]) -> u32
+    ensures { λ r. ⌜ r ≡ min u32-most (lengths-of (now (places .entry)) (now (edges .entry))) ⌝ }
+{
+    let mut sums = [0u32; MAX_LAYERS as usize];
+    totals::total(edges, first, places, &mut sums)
 }

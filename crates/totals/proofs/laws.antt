@@ -4,3 +4,4 @@ pub mod Starts
 pub mod Chaining
 pub mod Walking
 pub mod LayerSums
+pub mod LeftSums

@@ -12,7 +12,8 @@ ghost use lib.Dec.{T};
 ghost use lib.ListN.{length, replicate};
 ghost use Rattle.sheet.specs.Limits.{«max-nodes», «max-edges»};
 ghost use Rattle.network.specs.Packed.{stride};
-ghost use Rattle.totals.specs.inside.Chains.{links, linked, chainable, StartTable, Chained};
+ghost use Rattle.totals.specs.RunningSums.{chainable};
+ghost use Rattle.totals.specs.inside.Chains.{links, linked, StartTable, Chained};
 
 // A link for each node of a sheet, and one for each edge.
 pub const LINKS: usize = NODES + EDGES;

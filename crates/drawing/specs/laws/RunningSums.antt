@@ -114,11 +114,19 @@ module _ (s : List ℕ) (a : Accepts sheet s) where
       go zero h = absurd (omega arith)
       go (suc n) h = refl
 
+  -- so there is one
+  pub some-layer : 0 < length (S .layers)
+  some-layer = go (S .layers) starts-zero
+    where
+      go : (ls : List Layer) → getD (map (λ (l : Layer). l .first) ls) 0 max-nodes ≡ 0 → 0 < length ls
+      go [] e = absurd (omega arith)
+      go (l ∷ ls) e = omega arith
+
   module _ (p : List ℕ) where
     -- after the first layer it is the total
-    pub sums-first : 0 < length (S .layers) → getD (running-sums S p) 0 0 ≡ total-length S p
-    sums-first h =
-        layer-sum (λ (v : ℕ). total-from v S p) (S .layers) 0 h ∙ ap (λ (v : ℕ). total-from v S p) starts-zero ∙ from-all S p
+    pub sums-first : getD (running-sums S p) 0 0 ≡ total-length S p
+    sums-first =
+        layer-sum (λ (v : ℕ). total-from v S p) (S .layers) 0 some-layer ∙ ap (λ (v : ℕ). total-from v S p) starts-zero ∙ from-all S p
 
     -- it never falls from a layer to the one above it
     pub sums-fall : (i : ℕ) → suc i < length (S .layers) → getD (running-sums S p) (suc i) 0 ≤ getD (running-sums S p) i 0

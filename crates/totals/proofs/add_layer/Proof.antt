@@ -6,7 +6,7 @@ use borrow.Author.Needs.{needs}
 use Rattle.totals.specs.RunningSums.{layer-start}
 use Rattle.arcs.specs.Words.{u32-most}
 use Rattle.totals.proofs.laws.Starts.{starts-node}
-use Rattle.totals.proofs.laws.LayerSums.{LayerWalk, walk-begin, walk-there, walk-less, walk-next, walk-added, walk-runs}
+use Rattle.totals.proofs.laws.LayerSums.{LayerWalk, walk-begin, walk-there, walk-less, walk-next, walk-runs}
 use Rattle.totals.proofs.add_layer.Statement.{statement}
 use Rattle.totals.proofs.add_layer.Tie as tie
 
@@ -31,7 +31,7 @@ loop-holds : tie.Need-loop-holds Inv-loop μ-loop
 loop-holds c =
     let start = c .before .before .before .before .before .before in
     let layer = start .pre .1 .1 in
-    walk-begin (start .args .places .now) (start .pre .0) (start .pre .1 .0) (layer .0) (layer .1) (layer .2)
+    walk-begin (start .args .places .now) (start .pre .0) (start .pre .1 .0) (layer .0) (layer .1) (omega (arith, layer .2))
     (c .before .layer-start .ensures) (c .number .ensures .is)
 
 sub-i : tie.Need-sub-i Inv-loop μ-loop
@@ -60,7 +60,9 @@ loop-again c =
     (c .number2 .ensures .is)
 
 returns : tie.Need-returns Inv-loop μ-loop
-returns c = (walk-added (c .before .loop .inv) (omega arith), walk-runs (c .before .loop .inv) (omega arith))
+returns c =
+    let start = c .before .before .before .before .before .before .before .before in
+    walk-runs (c .before .loop .inv) (omega arith) (start .pre .1 .1 .2)
 
 pub add-layer-spec : {M : Type 1} → statement M
 add-layer-spec =

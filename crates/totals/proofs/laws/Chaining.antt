@@ -15,7 +15,8 @@ use Rattle.sheet.specs.Limits.{max-nodes, max-edges}
 use Rattle.network.specs.Sums.{below}
 use Rattle.network.specs.Packed.{stride}
 use Rattle.network.specs.laws.Tests.{and-right, and-both, is-true, is-false, fails, below-at, at-below}
-use Rattle.totals.specs.inside.Chains.{links, linked, lower-of, chainable, start-of, Last, Chained}
+use Rattle.totals.specs.RunningSums.{chainable}
+use Rattle.totals.specs.inside.Chains.{links, linked, lower-of, start-of, Last, Chained}
 
 -- no edge is chained yet
 pub chained-begin : (starts s : List ℕ) {chains : List ℕ} → chains ≡ replicate links 0 → Chained starts s 0 chains

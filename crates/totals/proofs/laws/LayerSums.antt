@@ -69,7 +69,7 @@ module _ {first p s chains : List ℕ} {layer sum link r : ℕ} (w : LayerWalk f
       (counted-at p (edge-from i s)))
 
   -- no edge is left: the whole layer is added
-  pub walk-added : link ≡ 0 → r ≡ min u32-most (sum + lengths-between (layer-start first layer) (layer-start first (layer + 1)) p s)
+  walk-added : link ≡ 0 → r ≡ min u32-most (sum + lengths-between (layer-start first layer) (layer-start first (layer + 1)) p s)
   walk-added e = walking-end (w .held .chained) (w .walking) e ∙ ap (λ (x : ℕ). min u32-most (sum + x)) chain-sum
 
   -- so the running sum of the layer behind becomes that of the layer

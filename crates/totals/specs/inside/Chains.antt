@@ -2,12 +2,9 @@
 -- else the edge's index and 1.
 use Prim.Native.Nat.{ℕ, suc, _+_, _/_, _<_, _≤_}
 use mathlib.Core.Path.{_≡_}
-use mathlib.Core.Bool.{Bool, _&&_}
 use mathlib.Core.List.{List}
-use lib.Dec.{leb, ltb}
 use lib.ListN.{length, getD, set}
 use Rattle.sheet.specs.Limits.{max-nodes, max-edges}
-use Rattle.network.specs.Sums.{below}
 use Rattle.network.specs.Packed.{stride}
 use Rattle.arcs.specs.Ends.{edge-from, lower-at}
 use Rattle.totals.specs.RunningSums.{layer-start}
@@ -53,10 +50,6 @@ linked chains start i = set (set chains (max-nodes + i) (getD chains start 0)) s
 -- the lower end of packed edge i
 abbrev pub lower-of : List ℕ → ℕ → ℕ
 lower-of s i = lower-at (edge-from i s)
-
--- packed edges that can be chained: a sheet may have so many, and each lower end is one of n nodes
-abbrev pub chainable : ℕ → List ℕ → Bool
-chainable n s = leb (length s / stride) max-edges && below (length s / stride) (λ i. ltb (lower-of s i) n)
 
 -- the first node of the layer that the lower end of packed edge i is in
 abbrev pub start-of : List ℕ → List ℕ → ℕ → ℕ

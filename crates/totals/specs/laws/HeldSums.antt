@@ -1,32 +1,33 @@
 -- How the total of a held sheet is added: its first nodes rise and its edges can be chained, so it goes layer by layer; and the sum after
 -- each layer is the drawing's running sum, by the meaning of the packed edges.
 use Prim.Native.Nat.{ℕ, suc, _+_, _-_, _*_, _/_, _≤_, _<_, min}
-use mathlib.Core.Path.{_≡_, sym, _∙_, ap₂, subst}
-use mathlib.Core.Bool.{Bool}
+use mathlib.Core.Path.{_≡_, refl, sym, _∙_, ap, ap₂, subst}
+use mathlib.Core.Bool.{Bool, true, cond}
 use mathlib.Core.List.{List, map}
 use native.Mathlib.Omega.{arith}
 use lib.Dec.{T, eqb, leb, le→leb, ltb, lt→ltb}
 use lib.ListN.{length, getD, take, length-map}
-use borrow.Author.Tests.{eq-eqb}
-use Rattle.sheet.specs.Limits.{max-edges}
-use Rattle.network.specs.Sums.{below}
+use borrow.Author.Tests.{eq-eqb, lt-ltb}
+use Rattle.sheet.specs.Limits.{max-nodes, max-edges}
+use Rattle.network.specs.Sums.{below, upto}
 use Rattle.network.specs.Packed.{stride, packs}
 use Rattle.network.specs.laws.PackedBack.{packs-length}
-use Rattle.network.specs.laws.Tests.{and-both, at-below}
+use Rattle.network.specs.laws.Tests.{and-both, at-below, is-true}
+use Rattle.network.specs.laws.Indexed.{upto-in}
 use Rattle.drawing.specs.Sheet.{Layer, Edge, Sheet, sheet-of}
 use Rattle.drawing.specs.Traces.{traces}
-use Rattle.drawing.specs.Drawing.{total-from, running-sums, Drawing}
+use Rattle.drawing.specs.Drawing.{total-length, total-from, running-sums, Drawing}
 use Rattle.drawing.specs.Proper.{proper-edge}
 use Rattle.drawing.specs.Arcs.{edge-arc}
 use Rattle.drawing.specs.laws.Carriers.{at-listed}
 use Rattle.drawing.specs.laws.Traces.{traces-length}
 use Rattle.drawing.specs.laws.ProperEdges.{edge-parts, proper-traces}
-use Rattle.drawing.specs.laws.RunningSums.{starts-rise, starts-zero, layer-sum}
+use Rattle.drawing.specs.laws.RunningSums.{starts-rise, starts-zero, some-layer, layer-sum, sums-first}
 use Rattle.arcs.specs.declared.Counts.{Counts}
 use Rattle.arcs.specs.Words.{u32-most}
 use Rattle.totals.specs.Lengths.{lengths-from}
-use Rattle.totals.specs.RunningSums.{layer-start, rises, RunningSum}
-use Rattle.totals.specs.inside.Chains.{lower-of, chainable}
+use Rattle.totals.specs.RunningSums.{layer-start, sum-after, RunningSum, rises, chainable, by-layers, with-sums, left-sums}
+use Rattle.totals.specs.inside.Chains.{lower-of}
 use Rattle.arcs.specs.laws.PackedEdges.{inside-at, packed-edge}
 use Rattle.totals.specs.laws.SheetLengths.{running-sum}
 use Rattle.arcs.specs.laws.HeldArcs.{Holds, proper, firsts-front, edges-front}
@@ -86,3 +87,34 @@ module _ {f a : List ℕ} {c : Counts} (h : Holds f a c) where
       ∙ ap₂ (λ (l k : List ℕ). min u32-most (lengths-from (layer-start l layer) p k)) (firsts-front h) (edges-front h)
       ∙ running-sum S p (proper h) d (layer-start starts layer)
       ∙ sym (layer-sum (λ (v : ℕ). total-from v S p) (S .layers) (layer - 1) (omega (arith, h .layers-are)))
+
+  -- it is added layer by layer
+  pub held-layers : (p : List ℕ) → Drawing S p → by-layers (take (c .layers) f) p (take (stride * c .edges) a) ≡ true
+  held-layers p d =
+      let few : c .nodes ≡ min (length p) max-nodes = omega (arith, d .size, h .nodes-are, proper h .nodes) in
+      is-true (by-layers (take (c .layers) f) p (take (stride * c .edges) a))
+      (and-both (rises (take (c .layers) f)) (chainable (min (length p) max-nodes) (take (stride * c .edges) a)) held-rises
+      (subst (λ (n : ℕ). T (chainable n (take (stride * c .edges) a))) few held-chainable))
+
+  -- so what it leaves in a lent slice are the drawing's running sums, the first layer's in front
+  pub held-left : (p old : List ℕ) → Drawing S p → (i : ℕ) → i < c .layers → i < length old
+      → getD (left-sums (take (c .layers) f) p (take (stride * c .edges) a) old) i 0 ≡ getD (running-sums S p) i 0
+  unfolding left-sums with-sums
+  held-left p old d i k l =
+      let first : List ℕ = take (c .layers) f in
+      let s : List ℕ = take (stride * c .edges) a in
+      let sums : ℕ → ℕ = λ j. cond (ltb j (length first)) (sum-after first p s (j + 1)) (getD old j 0) in
+      let many : i < length first =
+      omega (arith, ap length (firsts-front h), length-map (S .layers) (λ (l : Layer). l .first), h .layers-are) in
+      let back : i + 1 - 1 ≡ i = omega arith in
+      ap (λ (b : Bool). getD (cond b (upto (length old) sums) old) i 0) (held-layers p d)
+      ∙ upto-in 0 (length old) sums i l
+      ∙ ap (λ (b : Bool). cond b (sum-after first p s (i + 1)) (getD old i 0)) (lt-ltb i (length first) many)
+      ∙ held-sum p d {layer = i + 1} {sum = sum-after first p s (i + 1)} (omega arith) (omega arith) refl
+      ∙ ap (λ (j : ℕ). getD (running-sums S p) j 0) back
+
+  -- and the last one that it writes is the total
+  pub held-left-first : (p old : List ℕ) → Drawing S p → 0 < length old
+      → getD (left-sums (take (c .layers) f) p (take (stride * c .edges) a) old) 0 0 ≡ total-length S p
+  held-left-first p old d l =
+      held-left p old d 0 (omega (arith, some-layer (h .numbers) (h .good), h .layers-are)) l ∙ sums-first (h .numbers) (h .good) p
