@@ -15,7 +15,7 @@ ghost use mathlib.Core.Path.{_≡_};
 ghost use Rattle.leb128.specs.Source.{refusal};
 ghost use Rattle.leb128.specs.Refusals.{«slice-short»};
 ghost use Rattle.sheet.specs.Reading.{«read-sheet»};
-ghost use Rattle.checker.specs.Verdict.{judgement, decided, «check-answer»};
+ghost use Rattle.checker.specs.Verdict.{accepted, judgement, decided, «check-answer»};
 ghost use Rattle.checker.specs.Shown.{ShownLeast};
 ghost use Rattle.arcs.specs.laws.HeldArcs.{Holds};
 ghost use Rattle.checker.specs.inside.Table.{«table-decision»};
@@ -31,7 +31,7 @@ pub enum Verdict {
 // are not looked at. Yes shows both, whoever made sheet, places and list.
 pub fn check(bytes: &[u8], places: &[u16], list: &[i32]) -> Verdict
     ensures answer { λ r. ⌜ judgement r ≡ check-answer (read-sheet (now (bytes .entry))) (now (places .entry)) (now (list .entry)) ⌝ }
-    ensures least { λ r. ⌜ (r ≡ Verdict.Yes → ShownLeast (read-sheet (now (bytes .entry))) (now (places .entry))) ⌝ }
+    ensures least { λ r. ⌜ (judgement r ≡ accepted → ShownLeast (read-sheet (now (bytes .entry))) (now (places .entry))) ⌝ }
 {
     let mut first = [0u16; MAX_FIRSTS];
     let mut arcs = [0u32; MAX_ELEMENTS];

@@ -1,10 +1,10 @@
 -- `checker::check` meets its contract: a refusal is the reader's, and the loaded arcs answer for the bytes.
-use mathlib.Core.Path.{_∙_}
+use mathlib.Core.Path.{sym, _∙_}
 use native.Mathlib.Omega.{arith}
 use borrow.Author.Needs.{needs}
 use Rattle.arcs.specs.laws.HeldArcs.{loaded-holds}
 use Rattle.arcs.specs.laws.Loaded.{loaded-sheet, reader-refused}
-use Rattle.checker.specs.laws.Accepted.{verdict-least}
+use Rattle.checker.specs.laws.Accepted.{accepted-least}
 use Rattle.checker.proofs.laws.Answers.{loaded-answer, refused-answer}
 use Rattle.checker.proofs.check.Statement.{statement}
 use Rattle.checker.proofs.check.Tie as tie
@@ -46,7 +46,7 @@ returns c =
     refused-answer (start .args .bytes .now)
     (reader-refused (start .args .bytes .now) _ _ (omega arith) (omega arith) (c .before .r .given .1) (load .ensures .0))
     (start .args .places .now) (start .args .list .now) in
-    (answer, verdict-least (start .args .bytes .now) (start .args .places .now) (start .args .list .now) answer)
+    (answer, λ e. accepted-least (start .args .bytes .now) (start .args .places .now) (start .args .list .now) (sym answer ∙ e))
 
 returns-2 : tie.Need-returns-2
 returns-2 c =
@@ -57,7 +57,7 @@ returns-2 c =
     loaded-sheet (start .args .bytes .now) _ _ (counts .given .1) (load .ensures .0) (load .ensures .1 .0)
     (load .ensures .1 .1) in
     let answer = c .check-loaded .ensures ∙ loaded-answer l (start .args .places .now) (start .args .list .now) in
-    (answer, verdict-least (start .args .bytes .now) (start .args .places .now) (start .args .list .now) answer)
+    (answer, λ e. accepted-least (start .args .bytes .now) (start .args .places .now) (start .args .list .now) (sym answer ∙ e))
 
 pub check-spec : {M : Type 1} → statement M
 check-spec =

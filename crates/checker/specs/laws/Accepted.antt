@@ -1,6 +1,6 @@
 -- Yes shows that the first places are a drawing of the sheet, and that no drawing has a smaller total.
 use Prim.Native.Nat.{ℕ}
-use mathlib.Core.Path.{_≡_, refl, sym, _∙_, ap, subst}
+use mathlib.Core.Path.{_≡_, refl, sym, subst}
 use mathlib.Core.Bool.{Bool, true, cond}
 use mathlib.Core.List.{List}
 use lib.Dec.{T, ltb}
@@ -20,9 +20,7 @@ use Rattle.drawing.specs.Certificate.{certificate-size}
 use Rattle.drawing.specs.Judged.{judged}
 use Rattle.drawing.specs.laws.Judged.{judged-least}
 use Rattle.checker.specs.Shown.{ShownLeast}
-use Rattle.checker.specs.Verdict.{accepted, judgement, decided, judge-numbers, check-answer}
-use Rattle.checker.specs.declared.Verdict.{Verdict}
-use Rattle.checker.specs.declared.Verdict.the-variants.{Yes}
+use Rattle.checker.specs.Verdict.{accepted, decided, judge-numbers, check-answer}
 
 -- a value of yes is yes
 yes-true : (b : Bool) → Reply.value b ≡ accepted → T b
@@ -58,9 +56,3 @@ result-least (Result.refused r) places list e = absurd (value-not (sym e))
 pub accepted-least : (bytes places : List ℕ) (list : List ℤ) → check-answer (read-sheet bytes) places list ≡ accepted
     → ShownLeast (read-sheet bytes) places
 accepted-least bytes = result-least (read-sheet bytes)
-
--- the same of the code's answer
-pub verdict-least : (bytes places : List ℕ) (list : List ℤ) {v : Verdict} → judgement v ≡ check-answer (read-sheet bytes) places list
-    → v ≡ Yes → ShownLeast (read-sheet bytes) places
-unfolding judgement
-verdict-least bytes places list e is = accepted-least bytes places list (sym e ∙ ap judgement is)
