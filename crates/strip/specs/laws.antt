@@ -3,3 +3,4 @@ pub mod Refusals
 pub mod ReadBack
 pub mod Values
 pub mod Narrowest
+pub mod Drawn
