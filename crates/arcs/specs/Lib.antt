@@ -3,5 +3,6 @@ pub mod Words
 pub mod Loading
 pub mod Ends
 pub mod Widths
+pub mod Held
 pub mod inside
 pub mod laws

@@ -17,7 +17,7 @@ ghost use Rattle.leb128.specs.Refusals.{«slice-short»};
 ghost use Rattle.sheet.specs.Reading.{«read-sheet»};
 ghost use Rattle.checker.specs.Verdict.{accepted, judgement, decided, «check-answer»};
 ghost use Rattle.checker.specs.Shown.{ShownLeast};
-ghost use Rattle.arcs.specs.laws.HeldArcs.{Holds};
+ghost use Rattle.arcs.specs.Held.{Holds};
 ghost use Rattle.checker.specs.inside.Table.{«table-decision»};
 
 // Yes, no, or the refusal.

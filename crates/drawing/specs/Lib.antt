@@ -1,6 +1,7 @@
 pub mod Sheet
 pub mod Proper
 pub mod Traces
+pub mod Carriers
 pub mod Drawing
 pub mod Widths
 pub mod CoordinateFile

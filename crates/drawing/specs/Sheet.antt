@@ -23,6 +23,10 @@ pub record Edge : Type 0 where
   pub kind : ℕ
   pub weight : ℕ
 
+-- an edge by its ends, kind and weight
+abbrev pub edge : ℕ → ℕ → ℕ → ℕ → Edge
+edge upper lower kind weight = record { upper = upper; lower = lower; kind = kind; weight = weight }
+
 -- a sheet: the width, how many nodes, the layers and the edges
 pub record Sheet : Type 0 where
   pub width : ℕ

@@ -23,7 +23,7 @@ ghost use mathlib.Core.Path.{_≡_};
 ghost use Prim.Native.Nat.{min};
 ghost use Rattle.sheet.specs.Reading.{«read-sheet»};
 ghost use Rattle.arcs.specs.Words.{«u32-most»};
-ghost use Rattle.arcs.specs.laws.HeldArcs.{Holds};
+ghost use Rattle.arcs.specs.Held.{Holds};
 ghost use Rattle.totals.specs.Lengths.{«lengths-of»};
 ghost use Rattle.engine.specs.Draws.{result, Draws};
 ghost use Rattle.engine.specs.MinimumWidth.{narrowing, Narrows};

@@ -18,7 +18,7 @@ ghost use Rattle.leb128.specs.Limits.{«list-limit»};
 ghost use Rattle.sheet.specs.Limits.{«max-width»};
 ghost use Rattle.drawing.specs.laws.Widths.{greatest};
 ghost use Rattle.arcs.specs.Widths.{widened};
-ghost use Rattle.arcs.specs.laws.HeldArcs.{Holds};
+ghost use Rattle.arcs.specs.Held.{Holds};
 ghost use Rattle.engine.specs.Draws.{result};
 ghost use Rattle.engine.specs.MinimumWidth.{narrowing};
 ghost use Rattle.engine.specs.inside.Widths.{TotalHeld, NarrowsHeld, LowestHeld};

@@ -25,7 +25,8 @@ use Rattle.drawing.specs.laws.Traces.{traces-length}
 use Rattle.drawing.specs.laws.GoodNumbers.{accepts-good}
 use Rattle.drawing.specs.laws.Proper.{accepts-proper}
 use Rattle.drawing.specs.Proper.{proper-edge, Proper}
-use Rattle.drawing.specs.laws.Carriers.{At, at-listed}
+use Rattle.drawing.specs.Carriers.{At}
+use Rattle.drawing.specs.laws.Carriers.{at-listed}
 use Rattle.drawing.specs.laws.ProperEdges.{edge-parts, proper-traces}
 use Rattle.drawing.specs.laws.ArcCount.{arcs-count}
 use Rattle.drawing.specs.laws.ArcLimits.{network-storable}
@@ -33,23 +34,11 @@ use Rattle.arcs.specs.declared.Counts.{Counts}
 use Rattle.arcs.specs.Loading.{layer-firsts, firsts-size, arcs-size}
 use Rattle.arcs.specs.laws.LayerFirsts.{firsts-length}
 use Rattle.arcs.specs.Ends.{edge-from}
-use Rattle.arcs.specs.laws.PackedEdges.{Packs, packed-edge}
+use Rattle.arcs.specs.Held.{Packs, Holds}
+use Rattle.arcs.specs.laws.PackedEdges.{packed-edge}
 use Rattle.arcs.specs.laws.Loaded.{LoadedSheet}
 
--- the first nodes and the packed arcs of a good sheet of these counts, whatever stands behind them
-pub record Holds (f a : List ℕ) (c : Counts) : Type 0 where
-  pub numbers : List ℕ
-  pub good : Accepts sheet numbers
-  pub firsts-behind : List ℕ
-  pub firsts-are : f ≡ layer-firsts (sheet-of numbers) ++ firsts-behind
-  pub behind : List ℕ
-  pub packed-are : a ≡ packed (network (sheet-of numbers)) ++ behind
-  pub layers-are : c .layers ≡ length (sheet-of numbers .layers)
-  pub nodes-are : c .nodes ≡ sheet-of numbers .nodes
-  pub edges-are : c .edges ≡ length (sheet-of numbers .edges)
-  pub arcs-are : c .arcs ≡ length (network (sheet-of numbers) .arcs)
-
--- so do slices into which a sheet was loaded
+-- slices into which a sheet was loaded hold it
 pub loaded-holds : {bytes f₀ f a₀ a : List ℕ} {c : Counts} → LoadedSheet bytes f₀ f a₀ a c → Holds f a c
 loaded-holds {f₀ = f₀} {a₀ = a₀} l = record {
   numbers = l .numbers;
@@ -148,7 +137,8 @@ module _ {f a : List ℕ} {c : Counts} (h : Holds f a c) where
       (omega (arith, packs-length es, length-map ts edge-arc, traces-length (S .edges), h .edges-are))
 
   -- packed edge i of these is what edge i carries
-  pub held-edge : {i : ℕ} {t : Edge} → At (traces (S .edges)) i t → Packs (edge-from i (take (stride * c .edges) a)) t
+  pub held-edge : {i : ℕ} {t : Edge} → At (traces (sheet-of (h .numbers) .edges)) i t
+      → Packs (edge-from i (take (stride * c .edges) a)) t
   held-edge {t = t} x =
       let limits = edge-parts (S .nodes) t (at-listed x .passes (proper-edge (S .nodes)) (proper-traces S proper)) in
       rw edges-front (packed-edge x (limits .weight))

@@ -11,15 +11,10 @@ use Rattle.network.specs.Packed.{stride, flow-zero, high-none, packs}
 use Rattle.network.specs.laws.PackedBack.{packs-length}
 use Rattle.drawing.specs.Sheet.{Edge}
 use Rattle.drawing.specs.Arcs.{edge-arc-between, edge-arc}
-use Rattle.drawing.specs.laws.Carriers.{At}
-use Rattle.drawing.specs.laws.Carriers.At.{here, later}
-use Rattle.arcs.specs.Ends.{edge-from, upper-at, lower-at, weight-of, weight-at}
-
--- the packed edge in front of s is that of e
-pub record Packs (s : List ℕ) (e : Edge) : Type 0 where
-  pub upper : upper-at s ≡ e .upper
-  pub lower : lower-at s ≡ e .lower
-  pub weight : e .kind ≡ 0 → weight-at s ≡ e .weight
+use Rattle.drawing.specs.Carriers.{At}
+use Rattle.drawing.specs.Carriers.At.{here, later}
+use Rattle.arcs.specs.Ends.{edge-from, weight-of, weight-at}
+use Rattle.arcs.specs.Held.{Packs}
 
 -- the arc of an edge has its ends
 pub ends : (kind weight u v : ℕ) → (edge-arc-between kind weight u v .tail ≡ u) × (edge-arc-between kind weight u v .head ≡ v)

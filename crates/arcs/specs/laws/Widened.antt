@@ -34,7 +34,7 @@ use Rattle.arcs.specs.inside.Pieces.{pair-at, layer-at}
 use Rattle.arcs.specs.Loading.{layer-firsts}
 use Rattle.arcs.specs.Widths.{widened-to, widened}
 use Rattle.arcs.specs.laws.PackedEdges.{ends}
-use Rattle.arcs.specs.laws.HeldArcs.{Holds}
+use Rattle.arcs.specs.Held.{Holds}
 
 -- an arc at the width, if it leaves ground
 abbrev at-kink : ℕ → ℕ → Arc → Arc

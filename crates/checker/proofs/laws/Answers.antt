@@ -21,7 +21,8 @@ use Rattle.drawing.specs.laws.Judged.{judged-certifies}
 use Rattle.arcs.specs.declared.Counts.{Counts}
 use Rattle.checker.specs.Verdict.{judgement, decided, judge-numbers, check-answer}
 use Rattle.arcs.specs.laws.Loaded.{LoadedSheet}
-use Rattle.arcs.specs.laws.HeldArcs.{Holds, loaded-holds, holds-reads, size-is, network-is}
+use Rattle.arcs.specs.Held.{Holds}
+use Rattle.arcs.specs.laws.HeldArcs.{loaded-holds, holds-reads, size-is, network-is}
 use Rattle.checker.specs.inside.Table.{table-decision}
 use Rattle.checker.specs.declared.Verdict.{Verdict}
 use Rattle.checker.specs.declared.Verdict.the-variants as variants

@@ -22,7 +22,8 @@ use Rattle.arcs.specs.Words.{u32-most}
 use Rattle.totals.specs.Lengths.{lengths-of}
 use Rattle.totals.specs.laws.SheetLengths.{drawing-total}
 use Rattle.arcs.specs.declared.Counts.{Counts}
-use Rattle.arcs.specs.laws.HeldArcs.{Holds, proper, network-is, edges-front}
+use Rattle.arcs.specs.Held.{Holds}
+use Rattle.arcs.specs.laws.HeldArcs.{proper, network-is, edges-front}
 use Rattle.checker.specs.inside.Table.{table-decision}
 
 -- from the start of a slice

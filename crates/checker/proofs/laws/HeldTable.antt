@@ -3,7 +3,8 @@ use Prim.Native.Nat.{ℕ}
 use mathlib.Core.List.{List}
 use native.Mathlib.Omega.{arith}
 use Rattle.arcs.specs.declared.Counts.{Counts}
-use Rattle.arcs.specs.laws.HeldArcs.{Holds, proper, size-is, arcs-there, kinks-small}
+use Rattle.arcs.specs.Held.{Holds}
+use Rattle.arcs.specs.laws.HeldArcs.{proper, size-is, arcs-there, kinks-small}
 use Rattle.checker.specs.inside.Table.{Table}
 
 -- each arc is there, with a small kink

@@ -10,7 +10,8 @@ use Rattle.drawing.specs.Sheet.{Edge}
 use Rattle.drawing.specs.Traces.{traces}
 use Rattle.drawing.specs.Drawing.{coordinate, aligned, edge-aligned}
 use Rattle.drawing.specs.laws.Traces.{traces-length}
-use Rattle.drawing.specs.laws.Carriers.{SameEnds, ends-on, ends-back, at-listed, all-at, at-length, one-carrier}
+use Rattle.drawing.specs.Carriers.{SameEnds}
+use Rattle.drawing.specs.laws.Carriers.{ends-on, ends-back, at-listed, all-at, at-length, one-carrier}
 use Rattle.drawing.specs.laws.CarriedTraces.{traces-are, traces-all}
 
 -- ends that are equal where a kind asks it are where a smaller one does

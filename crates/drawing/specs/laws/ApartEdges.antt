@@ -16,15 +16,12 @@ use Rattle.drawing.specs.Sheet.{Edge, Sheet, first-nodes, edges-of, shee
 use Rattle.drawing.specs.Traces.{any-parallel, greatest-parallel, whole-trace, bare, traces-behind, traces}
 use Rattle.drawing.specs.Drawing.{edge-length, weighted-length, total-length}
 use Rattle.drawing.specs.laws.Traces.{greatest-le}
-use Rattle.drawing.specs.laws.Carriers.{At, SameEnds, NoneOf, Greatest, Carried, ends-back, ends-own, at-one, itself, carried-unique}
-use Rattle.drawing.specs.laws.Carriers.At.{here, later}
+use Rattle.drawing.specs.Carriers.{At, SameEnds, NoneOf, Greatest, Carried, Apart}
+use Rattle.drawing.specs.laws.Carriers.{ends-back, ends-own, at-one, itself, carried-unique}
+use Rattle.drawing.specs.Carriers.At.{here, later}
 use Rattle.drawing.specs.laws.CarriedTraces.{none-parallel, parallel-none, traces-are}
 
--- no two edges have the same ends
-abbrev pub Apart : List Edge → Type 0
-Apart es = (i j : ℕ) (a b : Edge) → At es i a → At es j b → SameEnds a b → i ≡ j
-
--- the same as a test
+-- no two edges have the same ends, as a test
 abbrev pub apart : List Edge → Bool
 apart [] = true
 apart (e ∷ es) = not (any-parallel e es) && apart es

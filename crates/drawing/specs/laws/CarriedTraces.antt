@@ -13,9 +13,9 @@ use Rattle.network.specs.laws.Tests.{or-left, or-right, either, fails, not-both
 use Rattle.drawing.specs.Sheet.{Edge}
 use Rattle.drawing.specs.Traces.{parallel, any-parallel, greatest-parallel, whole-trace, bare, traces-behind, traces}
 use Rattle.drawing.specs.laws.Traces.{parallel-ends, ends-parallel, traces-length}
-use Rattle.drawing.specs.laws.Carriers.{At, SameEnds, NoneOf, FirstOf, Among, Greatest, Carries, CarriesNothing, AllCarried}
+use Rattle.drawing.specs.Carriers.{At, SameEnds, NoneOf, FirstOf, Among, Greatest, Carries, CarriesNothing, AllCarried}
 use Rattle.drawing.specs.laws.Carriers.{ends-back, ends-own, itself, further, first-start, first-next, first-known, at-length, all-at}
-use Rattle.drawing.specs.laws.Carriers.At.{here, later}
+use Rattle.drawing.specs.Carriers.At.{here, later}
 
 -- edges with the same ends are parallel
 same-parallel : (e x : Edge) → SameEnds x e → T (parallel e x)

@@ -9,7 +9,8 @@ use Rattle.sheet.specs.Limits.{max-kind, max-weight}
 use Rattle.drawing.specs.Sheet.{Edge, Sheet}
 use Rattle.drawing.specs.Traces.{traces}
 use Rattle.drawing.specs.Proper.{proper-edge, Proper}
-use Rattle.drawing.specs.laws.Carriers.{At, at-listed}
+use Rattle.drawing.specs.Carriers.{At}
+use Rattle.drawing.specs.laws.Carriers.{at-listed}
 use Rattle.drawing.specs.laws.CarriedTraces.{traces-all}
 
 -- the parts of the test

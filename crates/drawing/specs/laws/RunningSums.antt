@@ -124,12 +124,13 @@ module _ (s : List ℕ) (a : Accepts sheet s) where
 
   module _ (p : List ℕ) where
     -- after the first layer it is the total
-    pub sums-first : getD (running-sums S p) 0 0 ≡ total-length S p
+    pub sums-first : getD (running-sums (sheet-of s) p) 0 0 ≡ total-length (sheet-of s) p
     sums-first =
         layer-sum (λ (v : ℕ). total-from v S p) (S .layers) 0 some-layer ∙ ap (λ (v : ℕ). total-from v S p) starts-zero ∙ from-all S p
 
     -- it never falls from a layer to the one above it
-    pub sums-fall : (i : ℕ) → suc i < length (S .layers) → getD (running-sums S p) (suc i) 0 ≤ getD (running-sums S p) i 0
+    pub sums-fall : (i : ℕ) → suc i < length (sheet-of s .layers)
+        → getD (running-sums (sheet-of s) p) (suc i) 0 ≤ getD (running-sums (sheet-of s) p) i 0
     sums-fall i h =
         let rise : getD starts i max-nodes < getD starts (suc i) max-nodes = starts-rise i (omega arith) in
         omega (

@@ -1,13 +1,8 @@
 -- Traces of a few edges, computed: what the first of parallel edges carries, and what is not parallel.
-use Prim.Native.Nat.{ℕ}
 use mathlib.Core.Path.{_≡_, refl}
 use mathlib.Core.List.{[], _∷_}
-use Rattle.drawing.specs.Sheet.{Edge}
+use Rattle.drawing.specs.Sheet.{edge}
 use Rattle.drawing.specs.Traces.{traces}
-
--- an edge by its ends, kind and weight
-abbrev edge : ℕ → ℕ → ℕ → ℕ → Edge
-edge upper lower kind weight = record { upper = upper; lower = lower; kind = kind; weight = weight }
 
 -- no edges have no traces
 none : traces [] ≡ []

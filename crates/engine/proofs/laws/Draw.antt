@@ -24,7 +24,8 @@ use Rattle.arcs.specs.Words.{u32-most}
 use Rattle.totals.specs.Lengths.{lengths-of}
 use Rattle.arcs.specs.declared.Counts.{Counts}
 use Rattle.arcs.specs.laws.Loaded.{LoadedSheet}
-use Rattle.arcs.specs.laws.HeldArcs.{Holds, size-is, loaded-holds, holds-reads}
+use Rattle.arcs.specs.Held.{Holds}
+use Rattle.arcs.specs.laws.HeldArcs.{size-is, loaded-holds, holds-reads}
 use Rattle.engine.specs.Refusals.{no-drawing, finding-refusal}
 use Rattle.engine.specs.Draws.{Drawn, result, DrawsSheet, Draws}
 use Rattle.engine.specs.Draws.Refuses.{few-places, few-numbers, none}

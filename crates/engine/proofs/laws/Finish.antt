@@ -34,7 +34,8 @@ use Rattle.arcs.specs.Words.{u32-most}
 use Rattle.totals.specs.Lengths.{lengths-of}
 use Rattle.totals.specs.laws.SheetLengths.{drawing-total}
 use Rattle.arcs.specs.declared.Counts.{Counts}
-use Rattle.arcs.specs.laws.HeldArcs.{Holds, proper, size-is, edges-front}
+use Rattle.arcs.specs.Held.{Holds}
+use Rattle.arcs.specs.laws.HeldArcs.{proper, size-is, edges-front}
 use Rattle.checker.proofs.laws.DecisionParts.{less-none}
 use Rattle.engine.specs.Draws.{Returns}
 use Rattle.engine.proofs.laws.Fits.{meant-is}

@@ -27,7 +27,8 @@ use Rattle.drawing.specs.Arcs.{network}
 use Rattle.drawing.specs.laws.SameDrawings.{drawing-feasible}
 use Rattle.drawing.specs.laws.ArcLimits.{low-near, high-near, near, Near, near-parts, network-near}
 use Rattle.arcs.specs.declared.Counts.{Counts}
-use Rattle.arcs.specs.laws.HeldArcs.{Holds, proper, size-is, arcs-there, network-is}
+use Rattle.arcs.specs.Held.{Holds}
+use Rattle.arcs.specs.laws.HeldArcs.{proper, size-is, arcs-there, network-is}
 use Rattle.circulation.specs.Input.{LowIn, HighIn, Limited}
 use Rattle.leftmost.specs.Solutions.{Taken}
 use Rattle.leftmost.specs.laws.Hanging.{hangs-rooted}

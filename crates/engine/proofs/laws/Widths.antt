@@ -22,7 +22,8 @@ use Rattle.difference.specs.Solutions.{Lowest, NoneFeasible}
 use Rattle.arcs.specs.Limits.{max-arcs}
 use Rattle.arcs.specs.Widths.{widened}
 use Rattle.arcs.specs.declared.Counts.{Counts}
-use Rattle.arcs.specs.laws.HeldArcs.{Holds, proper, size-is, loaded-holds, holds-reads}
+use Rattle.arcs.specs.Held.{Holds}
+use Rattle.arcs.specs.laws.HeldArcs.{proper, size-is, loaded-holds, holds-reads}
 use Rattle.arcs.specs.laws.Loaded.{LoadedSheet}
 use Rattle.arcs.specs.laws.Widened.{holds-width, holds-width-sheet}
 use Rattle.engine.specs.Refusals.{no-width}

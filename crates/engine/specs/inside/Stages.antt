@@ -13,7 +13,7 @@ use Rattle.leftmost.specs.Solutions.{SomeFeasible}
 use Rattle.drawing.specs.Sheet.{Sheet, sheet-of}
 use Rattle.drawing.specs.Drawing.{total-length}
 use Rattle.arcs.specs.declared.Counts.{Counts}
-use Rattle.arcs.specs.laws.HeldArcs.{Holds}
+use Rattle.arcs.specs.Held.{Holds}
 use Rattle.engine.specs.Refusals.{no-drawing}
 use Rattle.engine.specs.Draws.{Drawn, DrawsSheet}
 

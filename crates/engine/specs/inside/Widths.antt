@@ -10,7 +10,7 @@ use Rattle.drawing.specs.Drawing.{NoDrawing}
 use Rattle.drawing.specs.Widths.{TotalAt}
 use Rattle.difference.specs.Solutions.{Lowest}
 use Rattle.arcs.specs.declared.Counts.{Counts}
-use Rattle.arcs.specs.laws.HeldArcs.{Holds}
+use Rattle.arcs.specs.Held.{Holds}
 use Rattle.engine.specs.Refusals.{no-drawing}
 use Rattle.engine.specs.Draws.{Drawn}
 use Rattle.engine.specs.MinimumWidth.{Narrowed, NarrowsSheet}

@@ -10,7 +10,7 @@ use native.Mathlib.Nat.{pow-suc, one-le-pow, div-lt-iff-lt-mul}
 use lib.ListN.{length, drop}
 use lib.Dec.{ltb, lit<}
 use borrow.Author.Tests.{lt-ltb, le-ltb, ne-eqb}
-use Rattle.leb128.specs.Number.{Decoded, encode, decode, grouped, AreBytes}
+use Rattle.leb128.specs.Number.{Decoded, encode, decode, grouped, AreBytes, Encoded}
 use Rattle.leb128.specs.Number.Decoded.{number, ended, overlong}
 use Rattle.leb128.specs.laws.Cases.{test, lt-or-le, eq-or-ne}
 
@@ -82,12 +82,6 @@ encode-most (suc k) n =
     (λ (short : n < 128). rw (encode-last k n short) (omega arith))
     (λ (long : 128 ≤ n). rw (encode-more k n long) (omega (arith, encode-most k (n / 128))))
     (lt-or-le n 128)
-
--- encoding a decoded number
-pub record Encoded (k n size : ℕ) (bytes : List ℕ) : Type 0 where
-  pub below : n < 128 ^ k
-  pub size-is : length (encode k n) ≡ size
-  pub bytes-are : bytes ≡ encode k n ++ drop size bytes
 
 -- an end is no number
 pub ended-not : (n size : ℕ) → ended ≡ number n size → ⊥

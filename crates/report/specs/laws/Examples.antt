@@ -1,20 +1,15 @@
 -- The lines of document 01, computed: its first sheet's text and a refusal's.
-use Prim.Native.Nat.{ℕ}
 use mathlib.Core.Path.{_≡_, refl}
-use mathlib.Core.List.{List, [], _∷_}
+use mathlib.Core.List.{[], _∷_}
 use Rattle.leb128.specs.Source.{refusal}
 use Rattle.drawing.specs.Sheet.{sheet-of}
 use Rattle.report.specs.Decimal.{digit-count, decimal}
 use Rattle.report.specs.Text.{field, total-line, node-line, node-lines, layer-lines, layers-lines, drawing-lines, refusal-line}
 
--- the numbers of the first sheet
-first-sheet : List ℕ
-first-sheet = 5 ∷ 2 ∷ 2 ∷ 1 ∷ 0 ∷ 1 ∷ 2 ∷ 1 ∷ 1 ∷ 1 ∷ 0 ∷ 1 ∷ 2 ∷ 1 ∷ 0 ∷ []
-
--- total 1; 1 1 0; 1 2 1; 2 1 0
-first-text : drawing-lines (sheet-of first-sheet) (0 ∷ 1 ∷ 0 ∷ []) 1
+-- the first sheet, by its numbers: total 1; 1 1 0; 1 2 1; 2 1 0
+first-text : drawing-lines (sheet-of (5 ∷ 2 ∷ 2 ∷ 1 ∷ 0 ∷ 1 ∷ 2 ∷ 1 ∷ 1 ∷ 1 ∷ 0 ∷ 1 ∷ 2 ∷ 1 ∷ 0 ∷ [])) (0 ∷ 1 ∷ 0 ∷ []) 1
     ≡ 116 ∷ 111 ∷ 116 ∷ 97 ∷ 108 ∷ 32 ∷ 49 ∷ 10 ∷ 49 ∷ 32 ∷ 49 ∷ 32 ∷ 48 ∷ 10 ∷ 49 ∷ 32 ∷ 50 ∷ 32 ∷ 49 ∷ 10 ∷ 50 ∷ 32 ∷ 49 ∷ 32 ∷ 48 ∷ 10 ∷ []
-unfolding first-sheet sheet-of digit-count decimal field total-line node-line node-lines layer-lines layers-lines drawing-lines
+unfolding sheet-of digit-count decimal field total-line node-line node-lines layer-lines layers-lines drawing-lines
 first-text = refl
 
 -- refused 8 at 0

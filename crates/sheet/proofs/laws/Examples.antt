@@ -14,7 +14,7 @@ use Rattle.sheet.specs.Limits.{magic}
 use Rattle.sheet.specs.Grammar.{crossed, separation, separations, layers, edge, edges, sheet}
 use Rattle.sheet.specs.Reading.{read-sheet}
 
--- what is read from these bytes behind the magic
+-- reading these bytes behind the magic: an example that unfolds this name opens all that reading computes with
 read-behind : List ℕ → Result
 unfolding
     decode grouped within both crossed separation separations layers edge edges sheet
@@ -32,50 +32,48 @@ unfolding same walk-bytes complete made reading read-sheet
 other-start = refl
 
 -- 80 00 is not the fewest bytes
-not-fewest : read-behind (0x80 ∷ 0x00 ∷ []) ≡ refused (refusal number-form 3)
+not-fewest : read-sheet (magic ++ 0x80 ∷ 0x00 ∷ []) ≡ refused (refusal number-form 3)
 unfolding read-behind
 not-fewest = refl
 
 -- no layers
-outside : read-behind (0x05 ∷ 0x00 ∷ []) ≡ refused (refusal outside-limits 4)
+outside : read-sheet (magic ++ 0x05 ∷ 0x00 ∷ []) ≡ refused (refusal outside-limits 4)
 unfolding read-behind
 outside = refl
 
 -- the form is tested before the limits
-form-first : read-behind (0x05 ∷ 0x80 ∷ 0x00 ∷ []) ≡ refused (refusal number-form 4)
+form-first : read-sheet (magic ++ 0x05 ∷ 0x80 ∷ 0x00 ∷ []) ≡ refused (refusal number-form 4)
 unfolding read-behind
 form-first = refl
 
 -- a maximum separation below its minimum
-crossing : read-behind (0x05 ∷ 0x01 ∷ 0x02 ∷ 0x03 ∷ 0x02 ∷ []) ≡ refused (refusal separations-crossed 7)
+crossing : read-sheet (magic ++ 0x05 ∷ 0x01 ∷ 0x02 ∷ 0x03 ∷ 0x02 ∷ []) ≡ refused (refusal separations-crossed 7)
 unfolding read-behind
 crossing = refl
 
 -- a byte behind the last number
-extra : read-behind (0x00 ∷ 0x01 ∷ 0x01 ∷ 0x00 ∷ 0x00 ∷ []) ≡ refused (refusal something-follows 7)
+extra : read-sheet (magic ++ 0x00 ∷ 0x01 ∷ 0x01 ∷ 0x00 ∷ 0x00 ∷ []) ≡ refused (refusal something-follows 7)
 unfolding read-behind
 extra = refl
 
--- the bytes behind the magic of the first sheet of "`place`"
-first : List ℕ
-first = 0x05 ∷ 0x02 ∷ 0x02 ∷ 0x01 ∷ 0x00 ∷ 0x01 ∷ 0x02 ∷ 0x01 ∷ 0x01 ∷ 0x01 ∷ 0x00 ∷ 0x01 ∷ 0x02 ∷ 0x01 ∷ 0x00 ∷ []
-
--- it is fifteen numbers
-first-read : read-behind first ≡ elements (5 ∷ 2 ∷ 2 ∷ 1 ∷ 0 ∷ 1 ∷ 2 ∷ 1 ∷ 1 ∷ 1 ∷ 0 ∷ 1 ∷ 2 ∷ 1 ∷ 0 ∷ [])
-unfolding read-behind first
+-- the first sheet of "`place`" is fifteen numbers
+first-read :
+    read-sheet (magic ++ 0x05 ∷ 0x02 ∷ 0x02 ∷ 0x01 ∷ 0x00 ∷ 0x01 ∷ 0x02 ∷ 0x01 ∷ 0x01 ∷ 0x01 ∷ 0x00 ∷ 0x01 ∷ 0x02 ∷ 0x01 ∷ 0x00 ∷ [])
+    ≡ elements (5 ∷ 2 ∷ 2 ∷ 1 ∷ 0 ∷ 1 ∷ 2 ∷ 1 ∷ 1 ∷ 1 ∷ 0 ∷ 1 ∷ 2 ∷ 1 ∷ 0 ∷ [])
+unfolding read-behind
 first-read = refl
 
 -- FF 1F is 4,095
-widest : read-behind (0xff ∷ 0x1f ∷ 0x01 ∷ 0x01 ∷ 0x00 ∷ []) ≡ elements (4095 ∷ 1 ∷ 1 ∷ 0 ∷ [])
+widest : read-sheet (magic ++ 0xff ∷ 0x1f ∷ 0x01 ∷ 0x01 ∷ 0x00 ∷ []) ≡ elements (4095 ∷ 1 ∷ 1 ∷ 0 ∷ [])
 unfolding read-behind
 widest = refl
 
 -- 80 20 is 4,096
-too-wide : read-behind (0x80 ∷ 0x20 ∷ []) ≡ refused (refusal outside-limits 3)
+too-wide : read-sheet (magic ++ 0x80 ∷ 0x20 ∷ []) ≡ refused (refusal outside-limits 3)
 unfolding read-behind
 too-wide = refl
 
 -- 80 80 is too long
-three-bytes : read-behind (0x80 ∷ 0x80 ∷ []) ≡ refused (refusal number-form 3)
+three-bytes : read-sheet (magic ++ 0x80 ∷ 0x80 ∷ []) ≡ refused (refusal number-form 3)
 unfolding read-behind
 three-bytes = refl

@@ -30,7 +30,8 @@ use Rattle.totals.specs.RunningSums.{layer-start, sum-after, RunningSum,
 use Rattle.totals.specs.inside.Chains.{lower-of}
 use Rattle.arcs.specs.laws.PackedEdges.{inside-at, packed-edge}
 use Rattle.totals.specs.laws.SheetLengths.{running-sum}
-use Rattle.arcs.specs.laws.HeldArcs.{Holds, proper, firsts-front, edges-front}
+use Rattle.arcs.specs.Held.{Holds}
+use Rattle.arcs.specs.laws.HeldArcs.{proper, firsts-front, edges-front}
 
 module _ {f a : List ℕ} {c : Counts} (h : Holds f a c) where
   -- the sheet
@@ -80,8 +81,9 @@ module _ {f a : List ℕ} {c : Counts} (h : Holds f a c) where
           omega (arith, packed-edge (t .1) (limits .weight) .lower, limits .lower, h .nodes-are)
 
   -- the sum after a layer is the drawing's
-  pub held-sum : (p : List ℕ) → Drawing S p → {layer sum : ℕ} → 1 ≤ layer → layer ≤ c .layers
-      → RunningSum (take (c .layers) f) p (take (stride * c .edges) a) layer sum → sum ≡ getD (running-sums S p) (layer - 1) 0
+  pub held-sum : (p : List ℕ) → Drawing (sheet-of (h .numbers)) p → {layer sum : ℕ} → 1 ≤ layer → layer ≤ c .layers
+      → RunningSum (take (c .layers) f) p (take (stride * c .edges) a) layer sum
+      → sum ≡ getD (running-sums (sheet-of (h .numbers)) p) (layer - 1) 0
   held-sum p d {layer} some there e =
       e
       ∙ ap₂ (λ (l k : List ℕ). min u32-most (lengths-from (layer-start l layer) p k)) (firsts-front h) (edges-front h)
@@ -89,7 +91,8 @@ module _ {f a : List ℕ} {c : Counts} (h : Holds f a c) where
       ∙ sym (layer-sum (λ (v : ℕ). total-from v S p) (S .layers) (layer - 1) (omega (arith, h .layers-are)))
 
   -- it is added layer by layer
-  pub held-layers : (p : List ℕ) → Drawing S p → by-layers (take (c .layers) f) p (take (stride * c .edges) a) ≡ true
+  pub held-layers : (p : List ℕ) → Drawing (sheet-of (h .numbers)) p
+      → by-layers (take (c .layers) f) p (take (stride * c .edges) a) ≡ true
   held-layers p d =
       let few : c .nodes ≡ min (length p) max-nodes = omega (arith, d .size, h .nodes-are, proper h .nodes) in
       is-true (by-layers (take (c .layers) f) p (take (stride * c .edges) a))
@@ -97,8 +100,9 @@ module _ {f a : List ℕ} {c : Counts} (h : Holds f a c) where
       (subst (λ (n : ℕ). T (chainable n (take (stride * c .edges) a))) few held-chainable))
 
   -- so what it leaves in a lent slice are the drawing's running sums, the first layer's in front
-  pub held-left : (p old : List ℕ) → Drawing S p → (i : ℕ) → i < c .layers → i < length old
-      → getD (left-sums (take (c .layers) f) p (take (stride * c .edges) a) old) i 0 ≡ getD (running-sums S p) i 0
+  pub held-left : (p old : List ℕ) → Drawing (sheet-of (h .numbers)) p → (i : ℕ) → i < c .layers → i < length old
+      → getD (left-sums (take (c .layers) f) p (take (stride * c .edges) a) old) i 0
+      ≡ getD (running-sums (sheet-of (h .numbers)) p) i 0
   unfolding left-sums with-sums
   held-left p old d i k l =
       let first : List ℕ = take (c .layers) f in
@@ -114,7 +118,7 @@ module _ {f a : List ℕ} {c : Counts} (h : Holds f a c) where
       ∙ ap (λ (j : ℕ). getD (running-sums S p) j 0) back
 
   -- and the last one that it writes is the total
-  pub held-left-first : (p old : List ℕ) → Drawing S p → 0 < length old
-      → getD (left-sums (take (c .layers) f) p (take (stride * c .edges) a) old) 0 0 ≡ total-length S p
+  pub held-left-first : (p old : List ℕ) → Drawing (sheet-of (h .numbers)) p → 0 < length old
+      → getD (left-sums (take (c .layers) f) p (take (stride * c .edges) a) old) 0 0 ≡ total-length (sheet-of (h .numbers)) p
   held-left-first p old d l =
       held-left p old d 0 (omega (arith, some-layer (h .numbers) (h .good), h .layers-are)) l ∙ sums-first (h .numbers) (h .good) p

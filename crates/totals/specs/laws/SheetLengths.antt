@@ -18,12 +18,14 @@ use Rattle.drawing.specs.Drawing.{coordinate, aligned, edge-aligned, edge-lengt
 use Rattle.drawing.specs.Arcs.{edge-arc}
 use Rattle.drawing.specs.Proper.{proper-edge, Proper}
 use Rattle.drawing.specs.laws.AlignedTraces.{aligned-traces}
-use Rattle.drawing.specs.laws.Carriers.{At, at-listed}
-use Rattle.drawing.specs.laws.Carriers.At.{here, later}
+use Rattle.drawing.specs.Carriers.{At}
+use Rattle.drawing.specs.laws.Carriers.{at-listed}
+use Rattle.drawing.specs.Carriers.At.{here, later}
 use Rattle.drawing.specs.laws.ProperEdges.{edge-parts, proper-traces}
 use Rattle.drawing.specs.laws.RunningSums as drawing
 use Rattle.arcs.specs.Words.{u32-most}
-use Rattle.arcs.specs.laws.PackedEdges.{Packs, packed-edge}
+use Rattle.arcs.specs.Held.{Packs}
+use Rattle.arcs.specs.laws.PackedEdges.{packed-edge}
 use Rattle.totals.specs.laws.LowerEnds.{from-all}
 use Rattle.arcs.specs.Ends.{edge-from, lower-at, weight-at}
 use Rattle.totals.specs.Lengths.{distance, counted-at, lengths-of, lengths-where, lengths-from}
@@ -80,9 +82,9 @@ module _ (S : Sheet) (p : List ℕ) (proper : Proper S) (d : Drawing S p) where
       (subst T (sym (aligned-traces p (S .edges))) (d .straight))
 
   -- which is what a running sum of the code is: no cap is reached
-  pub running-sum : (v : ℕ) → min u32-most (lengths-from v p packed-edges) ≡ total-from v S p
+  pub running-sum : (v : ℕ) → min u32-most (lengths-from v p (packs (map edge-arc (traces (S .edges))))) ≡ total-from v S p
   running-sum v = omega (arith, sheet-from v, drawing.from-small S p v proper d)
 
   -- and from node 0 on, the total
-  pub drawing-total : min u32-most (lengths-of p packed-edges) ≡ total-length S p
+  pub drawing-total : min u32-most (lengths-of p (packs (map edge-arc (traces (S .edges))))) ≡ total-length S p
   drawing-total = ap (min u32-most) (sym (from-all p packed-edges)) ∙ running-sum 0 ∙ drawing.from-all S p
