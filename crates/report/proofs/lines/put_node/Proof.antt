@@ -1,10 +1,19 @@
--- `report::lines::put_node` meets its contract: three numbers, one behind the other.
+-- `report::lines::put_node` meets its contract: three numbers, one behind the other. What is stored comes first, so that an edit of it is
+-- refused for that and not for the room.
 use mathlib.Core.List.{_++_}
 use Rattle.leb128.specs.laws.Storing.{puts-then, room-first, room-next}
 use Rattle.report.specs.Text.{space, newline, field, node-line}
 use borrow.Author.Needs.{needs}
 use Rattle.report.proofs.lines.put_node.Statement.{statement}
 use Rattle.report.proofs.lines.put_node.Tie as tie
+
+returns : tie.Need-returns
+unfolding node-line
+returns c =
+    let put-field = c .before .before .before .before .before .before .before .before .before .before .put-field in
+    let put-field2 = c .before .before .before .before .before .before .put-field2 in
+    let put-field3 = c .before .before .put-field3 in
+    puts-then (puts-then (put-field .ensures) (put-field2 .ensures)) (put-field3 .ensures)
 
 put-field-requires : tie.Need-put-field-requires
 unfolding node-line
@@ -38,14 +47,6 @@ put-field-requires-3 c κs =
 
 same-length : tie.Need-same-length
 same-length c = search needs
-
-returns : tie.Need-returns
-unfolding node-line
-returns c =
-    let put-field = c .before .before .before .before .before .before .before .before .before .before .put-field in
-    let put-field2 = c .before .before .before .before .before .before .put-field2 in
-    let put-field3 = c .before .before .put-field3 in
-    puts-then (puts-then (put-field .ensures) (put-field2 .ensures)) (put-field3 .ensures)
 
 pub put-node-spec : {M : Type 1} → statement M
 put-node-spec =
