@@ -11,5 +11,3 @@ pub mod Taking
 pub mod FirstNodes
 pub mod Fill
 pub mod Load
-pub mod Ends
-pub mod Widening

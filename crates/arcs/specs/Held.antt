@@ -10,7 +10,7 @@ use Rattle.drawing.specs.Sheet.{Edge, sheet-of}
 use Rattle.drawing.specs.Arcs.{network}
 use Rattle.arcs.specs.declared.Counts.{Counts}
 use Rattle.arcs.specs.Loading.{layer-firsts}
-use Rattle.arcs.specs.Ends.{upper-at, lower-at, weight-at}
+use Rattle.packed.specs.Ends.{upper-at, lower-at, weight-at}
 
 -- the packed edge in front of s is that of e
 pub record Packs (s : List ℕ) (e : Edge) : Type 0 where

@@ -1,7 +1,7 @@
 // The edges off their numbers.
 use crate::ReadEdge;
-use crate::numbers::number;
-use crate::numbers::wide;
+use leb128::inside::number;
+use leb128::inside::wide;
 use sheet::layout::EDGE_KIND;
 use sheet::layout::EDGE_LAYER;
 use sheet::layout::EDGE_LOWER;

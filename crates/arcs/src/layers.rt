@@ -1,10 +1,10 @@
 // The arcs of the layers: boundaries and separations.
 use crate::Frame;
 use crate::numbers::layer_size;
-use crate::numbers::number;
 use crate::pack::maximum;
 use crate::pack::put_arc;
 use crate::pack::upper_bound;
+use leb128::inside::number;
 use network::layout::KINK_ZERO;
 use sheet::layout::FIRST_LAYER;
 use sheet::layout::MAXIMUM;

@@ -1,7 +1,5 @@
-// The first nodes of a sheet's layers and the arcs of its network, loaded into lent slices, the arcs in the packed layout, at any
-// width; the ends and weights of packed edges.
+// The first nodes of a sheet's layers and the arcs of its network, loaded into lent slices, the arcs in the packed layout.
 mod edges;
-mod ends;
 mod fill;
 mod layers;
 pub mod limits;
@@ -9,22 +7,16 @@ mod numbers;
 mod pack;
 mod planning;
 mod traces;
-mod widths;
 
 use crate::fill::fill;
 use crate::limits::MAX_FIRSTS;
 use crate::planning::plan;
 use crate::planning::put_firsts;
-pub use ends::edge_lower;
-pub use ends::edge_upper;
-pub use ends::edge_weight;
-pub use ends::place;
 use leb128::Answer;
 use leb128::Refusal;
 use leb128::refusals::SLICE_SHORT;
 use network::layout::STRIDE;
 use sheet::limits::MAX_NUMBERS;
-pub use widths::set_width;
 ghost use mathlib.Core.Path.{_≡_};
 ghost use lib.ListN.{length};
 ghost use Rattle.leb128.specs.Source.{refusal};

@@ -1,8 +1,8 @@
 // What is known of a good sheet before its arcs are filled in.
 use crate::Plan;
 use crate::numbers::layer_size;
-use crate::numbers::number;
-use crate::numbers::wide;
+use leb128::inside::number;
+use leb128::inside::wide;
 use sheet::layout::FIRST_LAYER;
 use sheet::layout::LAYERS;
 ghost use mathlib.Core.Path.{_≡_};

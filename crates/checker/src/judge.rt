@@ -12,7 +12,7 @@ use sheet::limits::MAX_LAYERS;
 ghost use mathlib.Core.Path.{_≡_};
 ghost use Prim.Native.Nat.{_≤_, min};
 ghost use lib.ListN.{length, take};
-ghost use Rattle.arcs.specs.Words.{«u32-most»};
+ghost use Rattle.leb128.specs.Words.{«u32-most»};
 ghost use Rattle.arcs.specs.Held.{Holds};
 ghost use Rattle.totals.specs.Lengths.{«lengths-of»};
 ghost use Rattle.checker.specs.inside.Table.{«table-decision»};

@@ -9,7 +9,7 @@ ghost use lib.Signed.{leZ};
 ghost use Rattle.network.specs.Integers.{eqZ};
 ghost use Rattle.network.specs.Network.{«at-least», «at-most»};
 ghost use Rattle.network.specs.Packed.{«kink-zero», «low-of», «high-of»};
-ghost use Rattle.arcs.specs.Words.{«u32-most»};
+ghost use Rattle.leb128.specs.Words.{«u32-most»};
 ghost use Rattle.checker.specs.inside.Sizes.{«i64-limit», «amount-size», «term-size»};
 
 // A sum.

@@ -22,7 +22,7 @@ use sheet::limits::MAX_LAYERS;
 ghost use mathlib.Core.Path.{_≡_};
 ghost use Prim.Native.Nat.{min};
 ghost use Rattle.sheet.specs.Reading.{«read-sheet»};
-ghost use Rattle.arcs.specs.Words.{«u32-most»};
+ghost use Rattle.leb128.specs.Words.{«u32-most»};
 ghost use Rattle.arcs.specs.Held.{Holds};
 ghost use Rattle.totals.specs.Lengths.{«lengths-of»};
 ghost use Rattle.engine.specs.Draws.{result, Draws};

@@ -1,5 +1,6 @@
 pub mod Number
 pub mod Limits
+pub mod Words
 pub mod Refusals
 pub mod Grammar
 pub mod Source

@@ -11,19 +11,12 @@ ghost use Rattle.leb128.specs.Limits.{«list-limit»};
 ghost use Rattle.sheet.specs.Layout.{«layer-size»};
 ghost use Rattle.sheet.specs.Nodes.{standing, «node-of»};
 
-// A number of 16 bits.
-fn wide(x: u16) -> usize
-    ensures { λ r. ⌜ (r ≡ x) × (r < list-limit) ⌝ }
-{
-    x as usize
-}
-
 // The number at an index; 0 behind the last one.
 fn number(numbers: &[u16], at: usize) -> usize
     ensures { λ r. ⌜ (r ≡ getD (now (numbers .entry)) at 0) × (r < list-limit) ⌝ }
 {
     if at < numbers.len() {
-        return wide(numbers[at]);
+        return leb128::inside::number(numbers, at);
     }
     0
 }

@@ -7,7 +7,7 @@ use lib.ListN.{length}
 use Rattle.network.specs.Sums.{sum-to}
 use Rattle.network.specs.Packed.{stride}
 use Rattle.drawing.specs.Drawing.{coordinate}
-use Rattle.arcs.specs.Ends.{edge-from, upper-at, lower-at, weight-at}
+use Rattle.packed.specs.Ends.{edge-from, upper-at, lower-at, weight-at}
 
 -- how far apart two coordinates are
 abbrev pub distance : ℕ → ℕ → ℕ

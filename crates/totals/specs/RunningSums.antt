@@ -9,8 +9,8 @@ use lib.ListN.{length, getD}
 use Rattle.sheet.specs.Limits.{max-nodes, max-edges}
 use Rattle.network.specs.Sums.{below, upto}
 use Rattle.network.specs.Packed.{stride}
-use Rattle.arcs.specs.Words.{u32-most}
-use Rattle.arcs.specs.Ends.{edge-from, lower-at}
+use Rattle.leb128.specs.Words.{u32-most}
+use Rattle.packed.specs.Ends.{edge-from, lower-at}
 use Rattle.totals.specs.Lengths.{lengths-from}
 
 -- the first node of a layer; of the one behind the last layer, a node that no sheet has

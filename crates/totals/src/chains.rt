@@ -1,10 +1,10 @@
 // Packed edges in chains, one for each layer, by their lower ends. A link is 0 where there is no edge, else the edge's index and 1. The
 // first links lead from a layer's first node to the last edge of the layer, those behind them from each edge to the one before it in its
 // chain.
-use crate::numbers::number;
 use crate::starts::NODES;
-use arcs::edge_lower;
+use leb128::inside::number;
 use network::layout::STRIDE;
+use packed::edge_lower;
 use sheet::limits::MAX_EDGES;
 ghost use mathlib.Core.Path.{_≡_};
 ghost use Prim.Native.Nat.{_/_, _<_};

@@ -1,13 +1,13 @@
 // What a packed edge counts.
-use arcs::edge_lower;
-use arcs::edge_upper;
-use arcs::edge_weight;
-use arcs::place;
+use packed::edge_lower;
+use packed::edge_upper;
+use packed::edge_weight;
+use packed::place;
 ghost use mathlib.Core.Path.{_≡_};
 ghost use Prim.Native.Nat.{_<_};
 ghost use Rattle.leb128.specs.Limits.{«list-limit»};
-ghost use Rattle.arcs.specs.Words.{Small};
-ghost use Rattle.arcs.specs.Ends.{«edge-from»};
+ghost use Rattle.leb128.specs.Words.{Small};
+ghost use Rattle.packed.specs.Ends.{«edge-from»};
 ghost use Rattle.totals.specs.Lengths.{distance, «counted-at»};
 
 // What packed edge i counts at these places: its length times its weight.

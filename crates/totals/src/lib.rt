@@ -1,24 +1,23 @@
 // The total of packed edges, added from the last layer to the first.
 mod chains;
 mod lengths;
-mod numbers;
 mod starts;
 
 use crate::chains::LINKS;
 use crate::chains::chain;
 use crate::lengths::counted;
-use crate::numbers::number;
 use crate::starts::NODES;
 use crate::starts::layer_start;
 use crate::starts::put_starts;
 use crate::starts::rising;
+use leb128::inside::number;
 use network::layout::STRIDE;
 ghost use mathlib.Core.Path.{_≡_};
 ghost use Prim.Native.Nat.{_+_, _-_, _≤_, min};
 ghost use lib.Dec.{T};
 ghost use lib.ListN.{length, replicate, set};
 ghost use Rattle.sheet.specs.Limits.{«max-nodes»};
-ghost use Rattle.arcs.specs.Words.{«u32-most»};
+ghost use Rattle.leb128.specs.Words.{«u32-most»};
 ghost use Rattle.totals.specs.Lengths.{«lengths-of»};
 ghost use Rattle.totals.specs.RunningSums.{rises, RunningSum, «with-sums», «left-sums»};
 ghost use Rattle.totals.specs.inside.Chains.{links, LayerChains};

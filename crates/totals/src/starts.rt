@@ -1,5 +1,5 @@
 // Where the layers start: the first node of a layer, and of the layer that a node is in.
-use crate::numbers::number;
+use leb128::inside::number;
 use sheet::limits::MAX_NODES;
 ghost use mathlib.Core.Path.{_≡_};
 ghost use Prim.Native.Nat.{_≤_, _<_};

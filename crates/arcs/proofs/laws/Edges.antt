@@ -12,7 +12,7 @@ use Rattle.drawing.specs.Sheet.{node-at, edge-of}
 use Rattle.drawing.specs.laws.Good.{GoodEdge, GoodEdges}
 use Rattle.arcs.specs.inside.Traces.{strength-of, as-read}
 use Rattle.arcs.specs.declared.ReadEdge.{ReadEdge}
-use Rattle.arcs.specs.Words.{Small}
+use Rattle.leb128.specs.Words.{Small}
 use Rattle.arcs.proofs.laws.Numbers.{number-behind}
 
 -- the four numbers of the edge at an index

@@ -20,7 +20,7 @@ use Rattle.drawing.specs.laws.GoodNumbers.{first-nodes-length}
 use Rattle.drawing.specs.laws.Traces.{traces-length}
 use Rattle.drawing.specs.laws.Proper.{edges-length}
 use Rattle.drawing.specs.laws.ArcCount.{layers-count}
-use Rattle.arcs.specs.Words.{Small}
+use Rattle.leb128.specs.Words.{Small}
 use Rattle.arcs.specs.inside.Pieces.{layers-arcs}
 use Rattle.arcs.specs.inside.Plans.{Planned, written}
 use Rattle.arcs.specs.inside.Traces.{strongest, Rising, Blank, Tabled}

@@ -11,7 +11,7 @@ use Rattle.sheet.specs.Limits.{max-nodes, max-layers}
 use Rattle.sheet.specs.Layout.{layers-at, first-layer-at, layer-size, behind-layers}
 use Rattle.drawing.specs.Sheet.{first-nodes}
 use Rattle.drawing.specs.laws.Good.{GoodLayers, GoodRest, Good}
-use Rattle.arcs.specs.Words.{Small}
+use Rattle.leb128.specs.Words.{Small}
 use Rattle.arcs.specs.inside.Plans.{FirstNodes, Planned}
 use Rattle.arcs.proofs.laws.Numbers.{less-one, number-here}
 use Rattle.arcs.proofs.laws.LayersAt.{next-at, LayersAt, layers-next}

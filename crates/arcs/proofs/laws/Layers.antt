@@ -18,7 +18,7 @@ use Rattle.drawing.specs.Arcs.{separation-arcs, layer-arcs}
 use Rattle.drawing.specs.laws.Good.{GoodLayer}
 use Rattle.drawing.specs.laws.SameDrawings.{length-pairs}
 use Rattle.drawing.specs.laws.Terms.{layer-length}
-use Rattle.arcs.specs.Words.{Small}
+use Rattle.leb128.specs.Words.{Small}
 use Rattle.arcs.specs.inside.Pieces.{layer-at, layers-arcs}
 use Rattle.arcs.proofs.laws.Numbers.{less-one, number-here}
 use Rattle.arcs.proofs.laws.LayersAt.{next-at, LayersAt, next-good, layers-next}

@@ -7,7 +7,7 @@ use lib.ListN.{length, getD, drop, length-drop}
 use lib.Seq.{drop-drop}
 use Rattle.sheet.specs.Layout.{nodes-at, layer-size, next-layer}
 use Rattle.drawing.specs.laws.Good.{GoodLayer, GoodLayers}
-use Rattle.arcs.specs.Words.{Small}
+use Rattle.leb128.specs.Words.{Small}
 use Rattle.arcs.proofs.laws.Numbers.{less-one, number-here}
 
 module _ {n v : ℕ} (at : ℕ) (s : List ℕ) (g : GoodLayer n v (drop at s)) where

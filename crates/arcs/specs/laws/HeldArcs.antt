@@ -33,7 +33,7 @@ use Rattle.drawing.specs.laws.ArcLimits.{network-storable}
 use Rattle.arcs.specs.declared.Counts.{Counts}
 use Rattle.arcs.specs.Loading.{layer-firsts, firsts-size, arcs-size}
 use Rattle.arcs.specs.laws.LayerFirsts.{firsts-length}
-use Rattle.arcs.specs.Ends.{edge-from}
+use Rattle.packed.specs.Ends.{edge-from}
 use Rattle.arcs.specs.Held.{Packs, Holds}
 use Rattle.arcs.specs.laws.PackedEdges.{packed-edge}
 use Rattle.arcs.specs.laws.Loaded.{LoadedSheet}

@@ -13,7 +13,7 @@ use Rattle.drawing.specs.Sheet.{Edge}
 use Rattle.drawing.specs.Arcs.{edge-arc-between, edge-arc}
 use Rattle.drawing.specs.Carriers.{At}
 use Rattle.drawing.specs.Carriers.At.{here, later}
-use Rattle.arcs.specs.Ends.{edge-from, weight-of, weight-at}
+use Rattle.packed.specs.Ends.{edge-from, weight-of, weight-at}
 use Rattle.arcs.specs.Held.{Packs}
 
 -- the arc of an edge has its ends

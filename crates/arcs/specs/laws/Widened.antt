@@ -32,7 +32,7 @@ use Rattle.drawing.specs.laws.Widths.{width-accepts, width-sheet}
 use Rattle.arcs.specs.declared.Counts.{Counts}
 use Rattle.arcs.specs.inside.Pieces.{pair-at, layer-at}
 use Rattle.arcs.specs.Loading.{layer-firsts}
-use Rattle.arcs.specs.Widths.{widened-to, widened}
+use Rattle.packed.specs.Widths.{widened-to, widened}
 use Rattle.arcs.specs.laws.PackedEdges.{ends}
 use Rattle.arcs.specs.Held.{Holds}
 

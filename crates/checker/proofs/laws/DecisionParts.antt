@@ -18,7 +18,7 @@ use Rattle.network.specs.laws.Indexed.{flows-upto}
 use Rattle.drawing.specs.Sheet.{sheet-of}
 use Rattle.drawing.specs.Drawing.{Drawing}
 use Rattle.drawing.specs.laws.SameDrawings.{feasible-drawing, same-total}
-use Rattle.arcs.specs.Words.{u32-most}
+use Rattle.leb128.specs.Words.{u32-most}
 use Rattle.totals.specs.Lengths.{lengths-of}
 use Rattle.totals.specs.laws.SheetLengths.{drawing-total}
 use Rattle.arcs.specs.declared.Counts.{Counts}

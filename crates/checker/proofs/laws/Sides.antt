@@ -16,7 +16,7 @@ use Rattle.network.specs.Packed.{tail-at, head-at, kink-at, low-at, high-at, st
 use Rattle.network.specs.laws.IntegerParts.{sum-parts, up-neg, down-neg}
 use Rattle.network.specs.Integers.{down, up}
 use Rattle.drawing.specs.Drawing.{coordinate}
-use Rattle.arcs.specs.Words.{Small}
+use Rattle.leb128.specs.Words.{Small}
 use Rattle.checker.specs.inside.Table.{Wide}
 
 -- number k of arc i

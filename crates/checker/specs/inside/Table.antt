@@ -9,7 +9,7 @@ use Rattle.network.specs.Network.{integers}
 use Rattle.network.specs.Flows.{certifies}
 use Rattle.network.specs.Packed.{kink-at, stride, kink-zero, network-of}
 use Rattle.arcs.specs.Limits.{max-arcs}
-use Rattle.arcs.specs.Words.{u32-most}
+use Rattle.leb128.specs.Words.{u32-most}
 use Rattle.arcs.specs.declared.Counts.{Counts}
 
 -- r is x, a number of 32 bits

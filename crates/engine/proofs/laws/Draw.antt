@@ -20,7 +20,7 @@ use Rattle.circulation.specs.Solutions.{Solution}
 use Rattle.leftmost.specs.Solutions.{Taken, SomeFeasible, finding, Means}
 use Rattle.leftmost.specs.declared.Answer.the-variants.{Solved, NoSolution, Malformed}
 use Rattle.leftmost.specs.declared.Answer as leftmost
-use Rattle.arcs.specs.Words.{u32-most}
+use Rattle.leb128.specs.Words.{u32-most}
 use Rattle.totals.specs.Lengths.{lengths-of}
 use Rattle.arcs.specs.declared.Counts.{Counts}
 use Rattle.arcs.specs.laws.Loaded.{LoadedSheet}

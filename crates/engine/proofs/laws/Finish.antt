@@ -30,7 +30,7 @@ use Rattle.drawing.specs.laws.SameRules.{same-rules, same-bound}
 use Rattle.circulation.specs.Nodes.{node-stride, potential-zero, potentials}
 use Rattle.circulation.specs.Solutions.{flows-of, potentials-of}
 use Rattle.circulation.specs.laws.Columns.{column-at}
-use Rattle.arcs.specs.Words.{u32-most}
+use Rattle.leb128.specs.Words.{u32-most}
 use Rattle.totals.specs.Lengths.{lengths-of}
 use Rattle.totals.specs.laws.SheetLengths.{drawing-total}
 use Rattle.arcs.specs.declared.Counts.{Counts}

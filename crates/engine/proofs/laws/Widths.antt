@@ -20,7 +20,7 @@ use Rattle.drawing.specs.laws.SameDrawings.{feasible-drawing}
 use Rattle.drawing.specs.laws.Widths.{greatest, LowestAt, none-narrower, greatest-in, drawing-narrow, narrower-none}
 use Rattle.difference.specs.Solutions.{Lowest, NoneFeasible}
 use Rattle.arcs.specs.Limits.{max-arcs}
-use Rattle.arcs.specs.Widths.{widened}
+use Rattle.packed.specs.Widths.{widened}
 use Rattle.arcs.specs.declared.Counts.{Counts}
 use Rattle.arcs.specs.Held.{Holds}
 use Rattle.arcs.specs.laws.HeldArcs.{proper, size-is, loaded-holds, holds-reads}

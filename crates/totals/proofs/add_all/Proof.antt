@@ -3,9 +3,9 @@ use Prim.Native.Nat.{ℕ, _+_, _-_, min}
 use mathlib.Core.Path.{_∙_, ap}
 use native.Mathlib.Omega.{arith}
 use borrow.Author.Needs.{needs}
-use Rattle.arcs.specs.Ends.{edge-from}
+use Rattle.packed.specs.Ends.{edge-from}
 use Rattle.totals.specs.Lengths.{counted-at}
-use Rattle.arcs.specs.Words.{u32-most}
+use Rattle.leb128.specs.Words.{u32-most}
 use Rattle.totals.proofs.laws.Adding.{Adding, adding-begin, adding-next, adding-end}
 use Rattle.totals.proofs.add_all.Statement.{statement}
 use Rattle.totals.proofs.add_all.Tie as tie

@@ -4,7 +4,7 @@ use mathlib.Core.Path.{_∙_, ap}
 use native.Mathlib.Omega.{arith}
 use borrow.Author.Needs.{needs}
 use Rattle.totals.specs.RunningSums.{layer-start}
-use Rattle.arcs.specs.Words.{u32-most}
+use Rattle.leb128.specs.Words.{u32-most}
 use Rattle.totals.proofs.laws.Starts.{starts-node}
 use Rattle.totals.proofs.laws.LayerSums.{LayerWalk, walk-begin, walk-there, walk-less, walk-next, walk-runs}
 use Rattle.totals.proofs.add_layer.Statement.{statement}

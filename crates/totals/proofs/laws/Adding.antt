@@ -4,7 +4,7 @@ use mathlib.Core.Path.{_≡_, _∙_, ap}
 use native.Mathlib.Numerals.{add-one}
 use native.Mathlib.Omega.{arith}
 use Rattle.network.specs.Sums.{sum-to}
-use Rattle.arcs.specs.Words.{u32-most}
+use Rattle.leb128.specs.Words.{u32-most}
 
 -- sum is that of the first i of count terms
 pub record Adding (f : ℕ → ℕ) (count i sum : ℕ) : Type 0 where

@@ -6,8 +6,8 @@ use native.Mathlib.Nat.{mul-le-mul}
 use native.Mathlib.Omega.{arith}
 use Rattle.leb128.specs.Limits.{list-limit}
 use Rattle.drawing.specs.Drawing.{coordinate}
-use Rattle.arcs.specs.Words.{Small, u32-most}
-use Rattle.arcs.specs.Ends.{upper-at, lower-at, weight-at}
+use Rattle.leb128.specs.Words.{Small, u32-most}
+use Rattle.packed.specs.Ends.{upper-at, lower-at, weight-at}
 use Rattle.totals.specs.Lengths.{distance, counted-at}
 
 -- a weight times a length stays below 64 bits

@@ -10,8 +10,8 @@ use Rattle.sheet.specs.Limits.{max-nodes}
 use Rattle.network.specs.Sums.{sum-to}
 use Rattle.network.specs.Packed.{stride}
 use Rattle.network.specs.laws.SumsTo.{sum-to-eq}
-use Rattle.arcs.specs.Words.{u32-most}
-use Rattle.arcs.specs.Ends.{edge-from}
+use Rattle.leb128.specs.Words.{u32-most}
+use Rattle.packed.specs.Ends.{edge-from}
 use Rattle.totals.specs.Lengths.{counted-at, lengths-of, lengths-from, lengths-between}
 use Rattle.totals.specs.RunningSums.{layer-start, rises, RunningSum}
 use Rattle.totals.specs.inside.Chains.{lower-of, LayerChains}

@@ -6,7 +6,7 @@ use mathlib.Core.List.{List}
 use lib.ListN.{length, getD, set}
 use Rattle.sheet.specs.Limits.{max-nodes, max-edges}
 use Rattle.network.specs.Packed.{stride}
-use Rattle.arcs.specs.Ends.{edge-from, lower-at}
+use Rattle.packed.specs.Ends.{edge-from, lower-at}
 use Rattle.totals.specs.RunningSums.{layer-start}
 
 -- node v is in a layer, by the first nodes of the layers

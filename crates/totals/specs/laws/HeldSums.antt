@@ -24,7 +24,7 @@ use Rattle.drawing.specs.laws.Traces.{traces-length}
 use Rattle.drawing.specs.laws.ProperEdges.{edge-parts, proper-traces}
 use Rattle.drawing.specs.laws.RunningSums.{starts-rise, starts-zero, some-layer, layer-sum, sums-first}
 use Rattle.arcs.specs.declared.Counts.{Counts}
-use Rattle.arcs.specs.Words.{u32-most}
+use Rattle.leb128.specs.Words.{u32-most}
 use Rattle.totals.specs.Lengths.{lengths-from}
 use Rattle.totals.specs.RunningSums.{layer-start, sum-after, RunningSum, rises, chainable, by-layers, with-sums, left-sums}
 use Rattle.totals.specs.inside.Chains.{lower-of}

@@ -13,7 +13,7 @@ use Rattle.leb128.specs.laws.Cases.{lt-or-le}
 use Rattle.network.specs.Packed.{stride}
 use Rattle.network.specs.laws.SumsTo.{sum-to-eq, sum-to-le, sum-to-zero, sum-to-add}
 use Rattle.drawing.specs.laws.RunningSums.{zero-all, later-less}
-use Rattle.arcs.specs.Ends.{edge-from, lower-at}
+use Rattle.packed.specs.Ends.{edge-from, lower-at}
 use Rattle.totals.specs.Lengths.{counted-at, lengths-of, lengths-where, lengths-from, lengths-between}
 
 -- a lower end from v on is before w, or from w on

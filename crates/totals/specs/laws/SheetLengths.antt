@@ -23,11 +23,11 @@ use Rattle.drawing.specs.laws.Carriers.{at-listed}
 use Rattle.drawing.specs.Carriers.At.{here, later}
 use Rattle.drawing.specs.laws.ProperEdges.{edge-parts, proper-traces}
 use Rattle.drawing.specs.laws.RunningSums as drawing
-use Rattle.arcs.specs.Words.{u32-most}
+use Rattle.leb128.specs.Words.{u32-most}
 use Rattle.arcs.specs.Held.{Packs}
 use Rattle.arcs.specs.laws.PackedEdges.{packed-edge}
 use Rattle.totals.specs.laws.LowerEnds.{from-all}
-use Rattle.arcs.specs.Ends.{edge-from, lower-at, weight-at}
+use Rattle.packed.specs.Ends.{edge-from, lower-at, weight-at}
 use Rattle.totals.specs.Lengths.{distance, counted-at, lengths-of, lengths-where, lengths-from}
 
 -- what a packed edge counts is the edge's length times its weight, where a straight edge is straight

@@ -7,7 +7,7 @@ use mir.Facts.{toZ-pos}
 use mir.Syntax.{w32}
 use mir.Val.{SFits}
 use borrow.Author.Needs.{needs}
-use Rattle.arcs.specs.Words.{u32-most}
+use Rattle.leb128.specs.Words.{u32-most}
 use Rattle.library_test.proofs.hex.signed.Statement.{statement}
 use Rattle.library_test.proofs.hex.signed.Tie as tie
 

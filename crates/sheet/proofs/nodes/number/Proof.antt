@@ -6,14 +6,8 @@ use borrow.Author.Needs.{needs}
 use Rattle.sheet.proofs.nodes.number.Statement.{statement}
 use Rattle.sheet.proofs.nodes.number.Tie as tie
 
-mul-wide : tie.Need-mul-wide
-mul-wide c = search needs
-
-shared-slice-read-wide : tie.Need-shared-slice-read-wide
-shared-slice-read-wide c = search needs
-
-wide-requires : tie.Need-wide-requires
-wide-requires c κs = search needs
+number-requires : tie.Need-number-requires
+number-requires c κs = search needs
 
 returns : tie.Need-returns
 returns c = search needs
@@ -22,4 +16,4 @@ returns-2 : tie.Need-returns-2
 returns-2 c = (sym (List·getD-eq-default (c .before .before .args .numbers .now) 0 (omega arith)), omega arith)
 
 pub number-spec : {M : Type 1} → statement M
-number-spec = tie.close (tie.spec mul-wide shared-slice-read-wide wide-requires returns returns-2)
+number-spec = tie.close (tie.spec number-requires returns returns-2)

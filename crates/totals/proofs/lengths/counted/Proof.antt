@@ -2,7 +2,7 @@
 use mathlib.Core.Path.{refl}
 use native.Mathlib.Omega.{arith}
 use borrow.Author.Needs.{needs}
-use Rattle.arcs.specs.Ends.{edge-from}
+use Rattle.packed.specs.Ends.{edge-from}
 use Rattle.totals.proofs.laws.Counted.{product-small, edge-counted}
 use Rattle.totals.proofs.lengths.counted.Statement.{statement}
 use Rattle.totals.proofs.lengths.counted.Tie as tie

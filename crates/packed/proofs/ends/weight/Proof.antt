@@ -1,8 +1,8 @@
--- `arcs::ends::weight` meets its contract: the limit is none, below flow 0, or a weight.
+-- `packed::ends::weight` meets its contract: the limit is none, below flow 0, or a weight.
 use native.Mathlib.Omega.{arith}
-use Rattle.arcs.proofs.laws.Ends.{weight-none, weight-some}
-use Rattle.arcs.proofs.ends.weight.Statement.{statement}
-use Rattle.arcs.proofs.ends.weight.Tie as tie
+use Rattle.packed.proofs.laws.Ends.{weight-none, weight-some}
+use Rattle.packed.proofs.ends.weight.Statement.{statement}
+use Rattle.packed.proofs.ends.weight.Tie as tie
 
 returns : tie.Need-returns
 returns c = weight-none (c .before .args .high) (c .if1 .taken)

@@ -1,9 +1,9 @@
--- `arcs::widths::set_width` meets its contract: the loop's invariant is `Widening`.
+-- `packed::widths::set_width` meets its contract: the loop's invariant is `Widening`.
 use native.Mathlib.Omega.{arith}
 use borrow.Author.Needs.{needs}
-use Rattle.arcs.proofs.laws.Widening.{Widening, widening-begin, widening-next, widening-end}
-use Rattle.arcs.proofs.widths.set_width.Statement.{statement}
-use Rattle.arcs.proofs.widths.set_width.Tie as tie
+use Rattle.packed.proofs.laws.Widening.{Widening, widening-begin, widening-next, widening-end}
+use Rattle.packed.proofs.widths.set_width.Statement.{statement}
+use Rattle.packed.proofs.widths.set_width.Tie as tie
 
 abbrev Inv-loop : tie.InvT-loop
 Inv-loop arcs₀ ground width at₀ left₀ arcs at left = Widening ground width arcs₀ arcs left at

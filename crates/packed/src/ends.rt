@@ -1,5 +1,5 @@
 // The ends and weights of packed edges, and the coordinates of nodes.
-use crate::numbers::wide;
+use leb128::inside::wide;
 use network::layout::FLOW_ZERO;
 use network::layout::HEAD;
 use network::layout::HIGH;
@@ -10,9 +10,8 @@ ghost use mathlib.Core.Path.{_≡_};
 ghost use Prim.Native.Nat.{_<_};
 ghost use lib.ListN.{getD};
 ghost use Rattle.network.specs.Packed.{stride};
-ghost use Rattle.drawing.specs.Drawing.{coordinate};
-ghost use Rattle.arcs.specs.Words.{Small};
-ghost use Rattle.arcs.specs.Ends.{«edge-from», «upper-at», «lower-at», «weight-of», «weight-at»};
+ghost use Rattle.leb128.specs.Words.{Small};
+ghost use Rattle.packed.specs.Ends.{«edge-from», «upper-at», «lower-at», «weight-of», «weight-at»};
 
 // The upper end of packed edge i; where there is no such edge, 0.
 pub fn edge_upper(arcs: &[u32], i: usize) -> u32
@@ -37,7 +36,7 @@ pub fn edge_weight(arcs: &[u32], i: usize) -> u32
 
 // The coordinate (place) of a node; where there is none, as at ground, it is 0.
 pub fn place(places: &[u16], v: usize) -> usize
-    ensures { λ r. ⌜ Small r (coordinate (now (places .entry)) v) ⌝ }
+    ensures { λ r. ⌜ Small r (getD (now (places .entry)) v 0) ⌝ }
 {
     if v < places.len() {
         return wide(places[v]);

@@ -1,9 +1,9 @@
--- `arcs::ends::edge_weight` meets its contract: what the high limit stands for.
+-- `packed::ends::edge_weight` meets its contract: what the high limit stands for.
 use mathlib.Core.Path.{_∙_, ap}
 use borrow.Author.Needs.{needs}
-use Rattle.arcs.specs.Ends.{weight-of}
-use Rattle.arcs.proofs.ends.edge_weight.Statement.{statement}
-use Rattle.arcs.proofs.ends.edge_weight.Tie as tie
+use Rattle.packed.specs.Ends.{weight-of}
+use Rattle.packed.proofs.ends.edge_weight.Statement.{statement}
+use Rattle.packed.proofs.ends.edge_weight.Tie as tie
 
 field-requires : tie.Need-field-requires
 field-requires c κs = search needs

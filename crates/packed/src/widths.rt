@@ -4,7 +4,7 @@ use network::layout::KINK_ZERO;
 use network::layout::STRIDE;
 use network::layout::TAIL;
 ghost use mathlib.Core.Path.{_≡_};
-ghost use Rattle.arcs.specs.Widths.{«widened-kink», widened};
+ghost use Rattle.packed.specs.Widths.{«widened-kink», widened};
 
 // Sets the width of packed arcs: the kink of every arc that leaves ground, since those are the right boundaries.
 pub fn set_width(arcs: &mut [u32], ground: usize, width: u16)

@@ -1,10 +1,10 @@
--- `arcs::ends::place` meets its contract: past the places stands 0.
+-- `packed::ends::place` meets its contract: past the places stands 0.
 use mathlib.Core.Path.{sym}
 use native.Mathlib.Omega.{arith}
 use lib.ListN.{List·getD-eq-default}
 use borrow.Author.Needs.{needs}
-use Rattle.arcs.proofs.ends.place.Statement.{statement}
-use Rattle.arcs.proofs.ends.place.Tie as tie
+use Rattle.packed.proofs.ends.place.Statement.{statement}
+use Rattle.packed.proofs.ends.place.Tie as tie
 
 mul-wide : tie.Need-mul-wide
 mul-wide c = search needs

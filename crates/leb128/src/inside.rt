@@ -1,7 +1,7 @@
-// The numbers of a slice.
+// Numbers of 16 bits, for crates that know that an index is inside a slice.
 ghost use Prim.Native.Nat.{_<_};
 ghost use lib.ListN.{length, getD};
-ghost use Rattle.arcs.specs.Words.{Small};
+ghost use Rattle.leb128.specs.Words.{Small};
 
 // The number at an index.
 pub fn number(numbers: &[u16], at: usize) -> usize
@@ -12,7 +12,7 @@ pub fn number(numbers: &[u16], at: usize) -> usize
 }
 
 // A number of 16 bits.
-fn wide(x: u16) -> usize
+pub fn wide(x: u16) -> usize
     ensures { λ r. ⌜ Small r x ⌝ }
 {
     x as usize

@@ -1,8 +1,8 @@
--- `arcs::widths::widened_kink` meets its contract: the two cases of the test.
+-- `packed::widths::widened_kink` meets its contract: the two cases of the test.
 use borrow.Author.Tests.{eq-eqb, ne-eqb}
 use borrow.Author.Needs.{needs}
-use Rattle.arcs.proofs.widths.widened_kink.Statement.{statement}
-use Rattle.arcs.proofs.widths.widened_kink.Tie as tie
+use Rattle.packed.proofs.widths.widened_kink.Statement.{statement}
+use Rattle.packed.proofs.widths.widened_kink.Tie as tie
 
 add-result : tie.Need-add-result
 add-result c = search needs

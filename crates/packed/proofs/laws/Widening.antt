@@ -6,7 +6,7 @@ use native.Mathlib.Omega.{arith}
 use lib.ListN.{length, getD, set, take, drop, length-set, take-append-drop}
 use lib.Seq.{take-set-le, drop-set-lt, drop-set-add, getD-drop, drop-drop, take-add}
 use Rattle.network.specs.Packed.{tail-at, kink-at, stride}
-use Rattle.arcs.specs.Widths.{widened-kink, widened-first, widened-to, widened}
+use Rattle.packed.specs.Widths.{widened-kink, widened-first, widened-to, widened}
 
 module _ (ground width : ℕ) where
   -- of the packed arcs of old, those in front of an index are set in new, and so many are left

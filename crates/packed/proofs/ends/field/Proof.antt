@@ -1,9 +1,9 @@
--- `arcs::ends::field` meets its contract: the edge is there, or it is not.
+-- `packed::ends::field` meets its contract: the edge is there, or it is not.
 use native.Mathlib.Omega.{arith}
 use borrow.Author.Needs.{needs}
-use Rattle.arcs.proofs.laws.Ends.{field-there, field-missing}
-use Rattle.arcs.proofs.ends.field.Statement.{statement}
-use Rattle.arcs.proofs.ends.field.Tie as tie
+use Rattle.packed.proofs.laws.Ends.{field-there, field-missing}
+use Rattle.packed.proofs.ends.field.Statement.{statement}
+use Rattle.packed.proofs.ends.field.Tie as tie
 
 returns : tie.Need-returns
 returns c =
