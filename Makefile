@@ -4,7 +4,7 @@
 #   make lib          the libraries alone
 #   make install      installs what is built, to PREFIX (/usr/local) below DESTDIR; it builds nothing
 #   make uninstall    takes away what was installed
-#   make times        prints how long the check of each crate takes, from nothing: minutes
+#   make times        prints how long the check of each crate takes, from nothing, and its must-fail edits: minutes
 #   make check        the gate, .ci/run: proves everything from nothing and runs all tests
 #   make clean        takes away everything that was built, proofs too
 #   make help         prints these lines
@@ -84,10 +84,14 @@ uninstall:
 	    "$(DESTDIR)$(LIBDIR)/libstrip.so.0" "$(DESTDIR)$(LIBDIR)/libstrip.so" \
 	    "$(DESTDIR)$(LIBDIR)/pkgconfig/strip.pc" "$(DESTDIR)$(BINDIR)/place"
 
-# A copy of the crates is proved, so that what is built stays.
+# A copy of the crates is proved, so that what is built stays. A must-fail edit of a crate takes as long as its check.
 times:
 	@copy=$$(mktemp -d) && cp -R crates crates.txt "$$copy" && (cd "$$copy" && $(RT) check) > "$$copy/log" 2>&1; status=$$?; \
-	    sed -n 's/^rt: \(.*\) proved (\(.*\))$$/\1 \2/p' "$$copy/log"; \
+	    sed -n 's/^rt: \(.*\) proved (\(.*\) s)$$/\1 \2/p' "$$copy/log" | while read -r crate seconds; do \
+	        echo "$$crate $$seconds $$(find "crates/$$crate/must-fail" -name '*.edit' 2>/dev/null | wc -l)"; done | \
+	    awk 'BEGIN { format = "%-14s %9s %6s %14s\n"; printf format, "crate", "check", "edits", "check x edits" } \
+	        { printf format, $$1, $$2 " s", $$3, $$2 * $$3 " s"; check += $$2; edits += $$3; product += $$2 * $$3 } \
+	        END { printf format, "sum", check " s", edits, product " s" }'; \
 	    [ $$status -eq 0 ] || tail -n 5 "$$copy/log" >&2; rm -rf "$$copy"; exit $$status
 
 check:

@@ -264,11 +264,18 @@ fn help_has_every_target() {
 fn times_are_those_of_a_copy() {
     let repository = Repository::new("times");
     let kit =
-        "echo rt: sheet proved \\(25 s\\)\necho rt: ok\n[ -e crates.txt ] && [ ! -e Makefile ]\n";
+        "echo rt: leb128 proved \\(6 s\\)\necho rt: sheet proved \\(25 s\\)\necho rt: ok\n[ -e crates.txt ] && [ ! -e Makefile ]\n";
     repository.write("kit", kit.as_bytes());
+    for edit in ["one", "two"] {
+        repository.write(&format!("crates/sheet/must-fail/{edit}.edit"), b"");
+    }
     let kit = format!("RT=sh {}", repository.folder.join("kit").display());
     let printed = repository.output(make().arg(&kit).arg("times"));
-    assert_eq!(printed, "sheet 25 s\n");
+    let words = |line: &str| line.split_whitespace().collect::<Vec<_>>().join(" ");
+    let printed: Vec<String> = printed.lines().map(words).collect();
+    let rows = ["leb128 6 s 0 0 s", "sheet 25 s 2 50 s", "sum 31 s 2 50 s"];
+    assert_eq!(printed[0], "crate check edits check x edits");
+    assert_eq!(printed[1..], rows);
     repository.write("kit", b"echo rt: sheet NOT PROVED\nexit 1\n");
     let failed = run_in(&repository.folder, make().arg(&kit).arg("times"));
     assert!(!failed.status.success());

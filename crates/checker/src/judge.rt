@@ -43,7 +43,8 @@ fn judge_whole(arcs: &[u32], first: &[u16], places: &[u16], list: &[i32], counts
 pub fn judge(arcs: &[u32], first: &[u16], places: &[u16], list: &[i32], counts: Counts) -> bool
     requires { ⌜ Holds (now first) (now arcs) counts ⌝ }
     requires { ⌜ (counts .arcs ≤ length (now list)) × (counts .nodes ≤ length (now places)) ⌝ }
-    ensures { λ r. ⌜ r ≡ table-decision (now (arcs .entry)) counts (take (counts .nodes) (now (places .entry))) (take (counts .arcs) (now (list .entry))) ⌝ }
+    ensures { λ r. ⌜ r ≡ table-decision (now (arcs .entry)) counts (take (counts .nodes) (now (places .entry)))
+        (take (counts .arcs) (now (list .entry))) ⌝ }
 {
     let nodes = counts.nodes;
     let n = counts.arcs;

@@ -1,5 +1,4 @@
 pub mod Limits
-pub mod Nodes
 pub mod Input
 pub mod Solutions
 pub mod inside

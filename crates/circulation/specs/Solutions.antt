@@ -10,7 +10,7 @@ use Rattle.network.specs.Network.{LeftmostLeast}
 use Rattle.network.specs.Flows.{rules, complementary}
 use Rattle.network.specs.Packed.{flow-zero, high-none}
 use Rattle.network.specs.Net.{at, Net, arcs, meant}
-use Rattle.circulation.specs.Nodes.{size, potentials, node-stride, potential-zero}
+use Rattle.network.specs.Nodes.{size, potentials, node-stride, potential-zero}
 use Rattle.circulation.specs.Input.{Valid}
 use Rattle.circulation.specs.declared.Answer.{Answer}
 use Rattle.circulation.specs.declared.Answer.the-variants.{Solved, Malformed}

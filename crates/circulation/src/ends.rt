@@ -2,15 +2,15 @@
 use crate::arc::head_of;
 use crate::arc::kink_of;
 use crate::arc::tail_of;
-use crate::nodes::POTENTIAL;
 use crate::nodes::get;
 use network::layout::KINK_ZERO;
+use network::nodes::POTENTIAL;
 ghost use mathlib.Core.Path.{_≡_};
 ghost use Prim.Native.Nat.{_<_};
 ghost use Rattle.network.specs.Net.{asks, at, head, net, stands, tail};
 ghost use Rattle.network.specs.WellFormed.{WellFormed};
 ghost use Rattle.circulation.specs.inside.Slackness.{Small};
-ghost use Rattle.circulation.specs.Nodes.{column, «node-stride», potentials, size};
+ghost use Rattle.network.specs.Nodes.{column, «node-stride», potentials, size};
 
 // Number k of the head of arc i of m.
 pub fn at_head(arcs: &[u32], nodes: &[u32], i: usize, k: usize, m: usize) -> usize

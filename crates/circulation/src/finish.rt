@@ -1,15 +1,15 @@
 // What the call leaves in the nodes: potentials relative to ground's, and 0 in their other numbers.
-use crate::layout::NODE_STRIDE;
-use crate::layout::POTENTIAL_ZERO;
-use crate::nodes::POTENTIAL;
 use crate::nodes::count_of;
 use crate::nodes::fill;
 use crate::nodes::get;
 use crate::nodes::put;
+use network::nodes::NODE_STRIDE;
+use network::nodes::POTENTIAL;
+use network::nodes::POTENTIAL_ZERO;
 ghost use mathlib.Core.Path.{_≡_};
 ghost use Prim.Native.Nat.{_≤_};
 ghost use Rattle.circulation.specs.inside.Finish.{Grounded, Settled, Zeroed};
-ghost use Rattle.circulation.specs.Nodes.{«node-stride», potentials, size};
+ghost use Rattle.network.specs.Nodes.{«node-stride», potentials, size};
 ghost use Rattle.network.specs.Limits.{«most-nodes»};
 
 // Potentials relative to ground's, and every other number 0.

@@ -7,10 +7,10 @@ use crate::limits::HIGH_MOST;
 use crate::limits::LOW_LEAST;
 use crate::limits::NO_FLOW;
 use crate::limits::UNLIMITED;
-use crate::nodes::POTENTIAL;
 use crate::nodes::count_of;
 use crate::nodes::get;
 use crate::start::first_flow;
+use network::nodes::POTENTIAL;
 use network::well_formed;
 ghost use mathlib.Core.Path.{_≡_};
 ghost use Prim.Native.Nat.{_+_, _*_, _≤_, _<_};
@@ -22,7 +22,7 @@ ghost use Rattle.circulation.specs.inside.Slackness.{Small};
 ghost use Rattle.network.specs.Tested.{Tested};
 ghost use Rattle.network.specs.Net.{at, net};
 ghost use Rattle.network.specs.Limits.{«most-arcs», «most-nodes»};
-ghost use Rattle.circulation.specs.Nodes.{potentials, size};
+ghost use Rattle.network.specs.Nodes.{potentials, size};
 ghost use Rattle.network.specs.Packed.{stride};
 
 // Whether the whole input is one that the method takes.

@@ -1,29 +1,29 @@
 // The primal-dual method: flows and potentials of a network that fit each other, least in cost and leftmost among the least.
 // Numbers are stored with something added, so that all are natural; sums and tests are on 64 bits, the slices hold 32.
-pub mod arc;
+mod arc;
 mod augment;
-pub mod ends;
-pub mod finish;
-pub mod input;
-pub mod layout;
+mod ends;
+mod finish;
+mod input;
+pub mod inside;
 pub mod limits;
-pub mod nodes;
+mod nodes;
 mod raise;
 mod search;
-pub mod start;
+mod start;
 mod step;
 
 use crate::augment::augment;
 use crate::finish::finish;
 use crate::input::arcs_taken;
 use crate::input::valid;
-use crate::layout::NODE_STRIDE;
 use crate::nodes::count_of;
 use crate::search::flood;
 use crate::search::search;
 use crate::search::source;
 use crate::start::count_deficits;
 use crate::start::saturate;
+use network::nodes::NODE_STRIDE;
 ghost use lib.ListN.{length};
 ghost use Rattle.circulation.specs.inside.Finish.{Zeroed};
 ghost use Rattle.circulation.specs.inside.Steps.{Ends};
@@ -31,7 +31,7 @@ ghost use Rattle.circulation.specs.Solutions.{finding, Means, Solution};
 ghost use Rattle.circulation.specs.Input.{ArcsTaken, Valid};
 ghost use Rattle.network.specs.Tested.{Tested};
 ghost use Rattle.network.specs.Net.{at, net};
-ghost use Rattle.circulation.specs.Nodes.{«node-stride», potentials, size};
+ghost use Rattle.network.specs.Nodes.{«node-stride», potentials, size};
 
 // What solve answers: a solution, or that the input is not taken.
 pub enum Answer {
@@ -57,7 +57,8 @@ pub fn takes(arcs: &[u32], count: usize, nodes: usize) -> bool
 // is open: any that are allowed, balanced and in complementary slackness with the potentials. Malformed leaves both slices as they
 // were.
 pub fn solve(arcs: &[u32], flows: &mut [u32], nodes: &mut [u32]) -> Answer
-    ensures { λ r. ⌜ Means (net (now (arcs .entry)) (length (now (flows .entry)))) (now (flows .entry)) (now (nodes .entry)) (now (flows .exit)) (now (nodes .exit)) (finding r) ⌝ }
+    ensures { λ r. ⌜ Means (net (now (arcs .entry)) (length (now (flows .entry)))) (now (flows .entry)) (now (nodes .entry))
+        (now (flows .exit)) (now (nodes .exit)) (finding r) ⌝ }
 {
     if !valid(arcs, nodes, flows.len()) {
         return Answer::Malformed;
@@ -70,7 +71,8 @@ pub fn solve(arcs: &[u32], flows: &mut [u32], nodes: &mut [u32]) -> Answer
 // Solves a valid network, where nothing stands behind the last node.
 fn whole(arcs: &[u32], flows: &mut [u32], nodes: &mut [u32])
     requires { ⌜ Valid (net (now arcs) (length (now flows))) (size (now nodes)) (potentials (now nodes)) ⌝ }
-    ensures { λ _. ⌜ Solution (net (now (arcs .entry)) (length (now (flows .entry)))) (size (now (nodes .entry))) (at (now (flows .exit))) (at (potentials (now (nodes .exit)))) ⌝ }
+    ensures { λ _. ⌜ Solution (net (now (arcs .entry)) (length (now (flows .entry)))) (size (now (nodes .entry))) (at (now (flows .exit)))
+        (at (potentials (now (nodes .exit)))) ⌝ }
     ensures { λ _. ⌜ Zeroed node-stride (now (nodes .exit)) ⌝ }
 {
     run(arcs, flows, nodes);
@@ -81,7 +83,8 @@ fn whole(arcs: &[u32], flows: &mut [u32], nodes: &mut [u32])
 // The method: searches and augments until no node has a deficit.
 fn run(arcs: &[u32], flows: &mut [u32], nodes: &mut [u32])
     requires { ⌜ Valid (net (now arcs) (length (now flows))) (size (now nodes)) (potentials (now nodes)) ⌝ }
-    ensures { λ _. ⌜ Ends (net (now (arcs .entry)) (length (now (flows .entry)))) (size (now (nodes .entry))) (now (flows .exit)) (now (nodes .exit)) ⌝ }
+    ensures { λ _. ⌜ Ends (net (now (arcs .entry)) (length (now (flows .entry)))) (size (now (nodes .entry))) (now (flows .exit))
+        (now (nodes .exit)) ⌝ }
 {
     saturate(arcs, flows, nodes);
     count_deficits(arcs, flows, nodes);

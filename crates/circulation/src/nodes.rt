@@ -1,30 +1,12 @@
 // The numbers of a node.
-use crate::layout::NODE_STRIDE;
+use network::nodes::NODE_STRIDE;
 ghost use mathlib.Core.Path.{_≡_};
 ghost use Prim.Native.Nat.{ℕ, _≤_, _<_};
 ghost use Rattle.circulation.specs.inside.Stores.{Apart, Stored};
 ghost use Rattle.network.specs.Net.{at};
-ghost use Rattle.circulation.specs.Nodes.{column, «node-stride», size};
+ghost use Rattle.network.specs.Nodes.{column, «node-stride», size};
 ghost use Rattle.network.specs.Packed.{«word-limit»};
 ghost use Rattle.network.specs.Limits.{«most-nodes»};
-
-// What is added to a deficit: 2^30.
-pub const DEFICIT_ZERO: usize = 1073741824;
-
-// In a node: its potential.
-pub const POTENTIAL: usize = 0;
-
-// In a node: how much more flows out of it than in, with DEFICIT_ZERO added.
-pub const DEFICIT: usize = 1;
-
-// In a node: its place in the order of reaching; 0 where it is not reached.
-pub const ORDER: usize = 2;
-
-// In a node: the arc over which it was reached.
-pub const PARENT: usize = 3;
-
-// In a node: how much can be moved to it from the source.
-pub const RESIDUAL: usize = 4;
 
 // How many nodes there are.
 pub fn count_of(nodes: &[u32]) -> usize

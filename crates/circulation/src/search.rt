@@ -7,11 +7,6 @@ use crate::arc::low_of;
 use crate::arc::tail_of;
 use crate::ends::at_head;
 use crate::ends::at_tail;
-use crate::nodes::DEFICIT;
-use crate::nodes::DEFICIT_ZERO;
-use crate::nodes::ORDER;
-use crate::nodes::PARENT;
-use crate::nodes::RESIDUAL;
 use crate::nodes::count_of;
 use crate::nodes::fill;
 use crate::nodes::get;
@@ -20,6 +15,11 @@ use crate::nodes::put;
 use crate::raise::raise_reached;
 use crate::step::choose;
 use crate::step::step_at;
+use network::nodes::DEFICIT;
+use network::nodes::DEFICIT_ZERO;
+use network::nodes::ORDER;
+use network::nodes::PARENT;
+use network::nodes::RESIDUAL;
 ghost use mathlib.Core.Path.{_≡_};
 ghost use Prim.Native.Nat.{_≤_, _<_};
 ghost use lib.ListN.{length};
@@ -31,7 +31,7 @@ ghost use Rattle.circulation.specs.Input.{Limited, Rooted};
 ghost use Rattle.network.specs.Net.{at, head, high, low, net, tail};
 ghost use Rattle.network.specs.Packed.{«word-limit»};
 ghost use Rattle.network.specs.Limits.{«most-nodes»};
-ghost use Rattle.circulation.specs.Nodes.{«deficit-zero», deficits, orders, residuals, size};
+ghost use Rattle.network.specs.Nodes.{«deficit-zero», deficits, orders, residuals, size};
 
 // A node with less inflow than outflow, the last one.
 pub fn source(nodes: &[u32]) -> Found

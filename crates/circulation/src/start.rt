@@ -8,11 +8,11 @@ use crate::arc::tail_of;
 use crate::ends::asks_at;
 use crate::ends::stands_at;
 use crate::limits::NO_FLOW;
-use crate::nodes::DEFICIT;
-use crate::nodes::DEFICIT_ZERO;
 use crate::nodes::fill;
 use crate::nodes::get;
 use crate::nodes::put;
+use network::nodes::DEFICIT;
+use network::nodes::DEFICIT_ZERO;
 ghost use mathlib.Core.Path.{_≡_};
 ghost use Prim.Native.Nat.{ℕ, _+_, _≤_, _<_};
 ghost use lib.ListN.{length};
@@ -23,7 +23,7 @@ ghost use Rattle.circulation.specs.Input.{Valid};
 ghost use Rattle.network.specs.Net.{asks, at, high, low, net, stands};
 ghost use Rattle.network.specs.Packed.{«word-limit»};
 ghost use Rattle.network.specs.Limits.{«most-nodes»};
-ghost use Rattle.circulation.specs.Nodes.{«deficit-zero», deficits, potentials, size};
+ghost use Rattle.network.specs.Nodes.{«deficit-zero», deficits, potentials, size};
 
 // The flows to start with.
 pub fn saturate(arcs: &[u32], flows: &mut [u32], nodes: &[u32])

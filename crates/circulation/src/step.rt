@@ -6,7 +6,7 @@ use crate::ends::asks_at;
 use crate::ends::at_head;
 use crate::ends::at_tail;
 use crate::ends::stands_at;
-use crate::nodes::ORDER;
+use network::nodes::ORDER;
 ghost use Prim.Native.Nat.{_<_};
 ghost use lib.ListN.{length};
 ghost use Rattle.circulation.specs.inside.Steps.{CrossingAt, Nearest};
@@ -14,7 +14,7 @@ ghost use Rattle.circulation.specs.inside.Search.{Distance, StepAt};
 ghost use Rattle.circulation.specs.inside.Slackness.{Ready};
 ghost use Rattle.network.specs.Net.{at, net};
 ghost use Rattle.network.specs.Packed.{«word-limit»};
-ghost use Rattle.circulation.specs.Nodes.{potentials, orders};
+ghost use Rattle.network.specs.Nodes.{potentials, orders};
 
 // A step that no arc has.
 pub const NEVER: usize = 4294967296;

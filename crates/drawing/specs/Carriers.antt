@@ -61,3 +61,7 @@ pub record AllCarried (es ts : List Edge) : Type 0 where
 -- no two edges have the same ends
 abbrev pub Apart : List Edge → Type 0
 Apart es = (i j : ℕ) (a b : Edge) → At es i a → At es j b → SameEnds a b → i ≡ j
+
+-- an edge is straight: its kind is not 0
+abbrev pub Straight : Edge → Type 0
+Straight e = e .kind ≡ 0 → ⊥

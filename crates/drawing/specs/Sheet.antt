@@ -2,7 +2,9 @@
 use Prim.Native.Nat.{ℕ, zero, suc, _+_, _-_}
 use mathlib.Core.List.{List, [], _∷_}
 use lib.ListN.{getD, drop}
-use Rattle.sheet.specs.Layout.{width-at, layers-at, first-layer-at, nodes-at, separations-at, separation-stride, minimum-at, maximum-at, edge-count-at, edges-at, edge-stride, edge-layer-at, edge-upper-at, edge-lower-at, edge-kind-at, next-layer, behind-layers}
+use Rattle.sheet.specs.Layout.{width-at, layers-at, first-layer-at, nodes-at, separations-at, separation-stride, minimum-at, maximum-at}
+use Rattle.sheet.specs.Layout.{edge-count-at, edges-at, edge-stride, edge-layer-at, edge-upper-at, edge-lower-at, edge-kind-at}
+use Rattle.sheet.specs.Layout.{next-layer, behind-layers}
 
 -- node `left` and its right neighbour, `suc left`, with their minimum and maximum separation (least and greatest gap);
 -- a maximum of 0 is none
@@ -37,12 +39,14 @@ pub record Sheet : Type 0 where
 -- n pairs from node v on, of the numbers from the first pair on
 abbrev pub pairs-of : ℕ → ℕ → List ℕ → List Pair
 pairs-of zero v s = []
-pairs-of (suc n) v s = record { left = v; minimum = getD s minimum-at 0; maximum = getD s maximum-at 0 } ∷ pairs-of n (suc v) (drop separation-stride s)
+pairs-of (suc n) v s = record { left = v; minimum = getD s minimum-at 0; maximum = getD s maximum-at 0 } ∷ pairs-of n (suc v)
+    (drop separation-stride s)
 
 -- n layers from node v on, of the numbers from the first layer on
 abbrev pub layers-of : ℕ → ℕ → List ℕ → List Layer
 layers-of zero v s = []
-layers-of (suc n) v s = record { first = v; pairs = pairs-of (getD s nodes-at 0 - 1) v (drop separations-at s) } ∷ layers-of n (v + getD s nodes-at 0) (next-layer s)
+layers-of (suc n) v s = record { first = v; pairs = pairs-of (getD s nodes-at 0 - 1) v (drop separations-at s) } ∷ layers-of n
+    (v + getD s nodes-at 0) (next-layer s)
 
 -- the first node of each of n layers, and last the node behind them
 abbrev pub first-nodes : ℕ → ℕ → List ℕ → List ℕ

@@ -2,10 +2,10 @@
 use arcs::limits::FEW_ARCS;
 use arcs::limits::FEW_NODES;
 use arcs::limits::MAX_ARCS;
-use circulation::layout::NODE_STRIDE;
 use guess::layout::STACK_COUNT;
 use guess::layout::STACKS;
 use network::layout::STRIDE;
+use network::nodes::NODE_STRIDE;
 use sheet::limits::MAX_NODES;
 
 // The nodes of a sheet with ground.

@@ -1,7 +1,7 @@
 // From what the solvers leave to places and list.
-use circulation::layout::NODE_STRIDE;
-use circulation::layout::POTENTIAL_ZERO;
 use network::layout::FLOW_ZERO;
+use network::nodes::NODE_STRIDE;
+use network::nodes::POTENTIAL_ZERO;
 ghost use mathlib.Core.Path.{_≡_};
 ghost use Prim.Native.Nat.{_*_, _≤_, _<_};
 ghost use lib.ListN.{length};

@@ -9,11 +9,11 @@ use crate::results::put_places;
 use arcs::Counts;
 use arcs::limits::FEW_ARCS;
 use arcs::limits::MAX_ARCS;
-use circulation::layout::NODE_STRIDE;
+use network::nodes::NODE_STRIDE;
 ghost use mathlib.Core.Path.{_≡_};
 ghost use Prim.Native.Nat.{_+_, _*_, _≤_};
 ghost use lib.ListN.{length};
-ghost use Rattle.circulation.specs.Nodes.{«node-stride»};
+ghost use Rattle.network.specs.Nodes.{«node-stride»};
 ghost use Rattle.arcs.specs.Limits.{«few-arcs»};
 ghost use Rattle.engine.specs.inside.Stages.{HoldsArcs, FillsHeld, Lent, Settles};
 

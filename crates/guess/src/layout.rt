@@ -1,18 +1,18 @@
 // What the guess keeps in the numbers of a node and in the room. A node is named by where its numbers begin. What is tested of a
-// guess stands where the circulation has it.
-use circulation::layout::NODE_STRIDE;
+// guess stands where the layout of nodes has it.
+use network::nodes::NODE_STRIDE;
 
 // In a node: its potential; HIDDEN where it is reached, so that no arc to it is on its kink.
-pub const POTENTIAL: u32 = circulation::nodes::POTENTIAL as u32;
+pub const POTENTIAL: u32 = network::nodes::POTENTIAL as u32;
 
 // In a node: how much more flows out of it than in, with DEFICIT_ZERO added.
-pub const DEFICIT: u32 = circulation::nodes::DEFICIT as u32;
+pub const DEFICIT: u32 = network::nodes::DEFICIT as u32;
 
 // In a node: the epoch where it is labelled; at the end its place in the order of reaching.
-pub const MARK: u32 = circulation::nodes::ORDER as u32;
+pub const MARK: u32 = network::nodes::ORDER as u32;
 
 // In a node: twice the arc over which it is labelled or reached, one more where it is the arc's tail.
-pub const PARENT: u32 = circulation::nodes::PARENT as u32;
+pub const PARENT: u32 = network::nodes::PARENT as u32;
 
 // In a node that is labelled: how far the source has risen once it reaches the node.
 pub const LABEL: u32 = 4;
@@ -24,13 +24,13 @@ pub const HIDDEN_POTENTIAL: u32 = LABEL;
 pub const HIDDEN: u32 = 4294967295;
 
 // In a node: where its entries begin.
-pub const FIRST: u32 = 5;
+pub const FIRST: u32 = network::nodes::ENTRIES as u32;
 
 // From a node on: where the entries of the next one begin.
 pub const NEXT_FIRST: u32 = FIRST + NODE_STRIDE as u32;
 
 // What is added to a deficit: 2^30.
-pub const DEFICIT_ZERO: u32 = circulation::nodes::DEFICIT_ZERO as u32;
+pub const DEFICIT_ZERO: u32 = network::nodes::DEFICIT_ZERO as u32;
 
 // An entry is this times the other node, and twice the arc, one more where the other node is the arc's tail.
 pub const ENTRY_NODE: u32 = 16384;

@@ -16,7 +16,7 @@ use crate::sources::line_up;
 use crate::sources::rightmost;
 use crate::stacks::set_height;
 use crate::start::begin;
-use circulation::layout::NODE_STRIDE;
+use network::nodes::NODE_STRIDE;
 
 // The guess, from the potentials in the nodes. It leaves the potential, the place in the order (from 1 on, ground first) and twice
 // the arc by which a node is held, where the circulation has potential, order and parent.

@@ -1,10 +1,10 @@
 // Numbers of slices by index: what is behind the end is read as 0 and not stored, so no index is wrong.
-use circulation::layout::NODE_STRIDE;
 use network::layout::KINK;
 use network::layout::KINK_ZERO;
 use network::layout::LOW;
 use network::layout::STRIDE;
 use network::layout::TAIL;
+use network::nodes::NODE_STRIDE;
 
 // No node; the greatest number of 32 bits.
 pub const NONE: u32 = 4294967295;

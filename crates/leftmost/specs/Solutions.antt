@@ -6,7 +6,7 @@ use mathlib.Core.List.{List}
 use lib.ListN.{length, replicate}
 use Rattle.network.specs.Network.{Network, Feasible, integers}
 use Rattle.network.specs.Net.{at, Net, meant}
-use Rattle.circulation.specs.Nodes.{size, potentials}
+use Rattle.network.specs.Nodes.{size, potentials}
 use Rattle.circulation.specs.Input.{ArcsTaken}
 use Rattle.circulation.specs.Solutions.{Solution, Cleared as NodesCleared}
 use Rattle.leftmost.specs.declared.Answer.{Answer}

@@ -7,14 +7,14 @@ mod start;
 use crate::attempt::attempt;
 use crate::start::circulate;
 use crate::start::set_potentials;
-use circulation::layout::NODE_STRIDE;
 use circulation::takes;
 use difference::Answer as Start;
 use difference::least;
 use network::clear;
+use network::nodes::NODE_STRIDE;
 ghost use lib.ListN.{length};
 ghost use Rattle.network.specs.Net.{meant, net};
-ghost use Rattle.circulation.specs.Nodes.{size};
+ghost use Rattle.network.specs.Nodes.{size};
 ghost use Rattle.leftmost.specs.Solutions.{finding, Finding, Means, SomeFeasible, Taken};
 
 // What solve answers: a solution, that there is none, or input that is not taken.
@@ -31,7 +31,8 @@ pub enum Answer {
 // flows it leaves is open. NoSolution is an answer and no refusal: no potentials that are not negative are feasible; room is 0,
 // flows and nodes are as they were. Malformed leaves all slices as they were.
 pub fn solve(arcs: &[u32], flows: &mut [u32], nodes: &mut [u32], room: &mut [u32]) -> Answer
-    ensures { λ r. ⌜ Means (net (now (arcs .entry)) (length (now (flows .entry)))) (now (flows .entry)) (now (nodes .entry)) (now (room .entry)) (now (flows .exit)) (now (nodes .exit)) (now (room .exit)) (finding r) ⌝ }
+    ensures { λ r. ⌜ Means (net (now (arcs .entry)) (length (now (flows .entry)))) (now (flows .entry)) (now (nodes .entry))
+        (now (room .entry)) (now (flows .exit)) (now (nodes .exit)) (now (room .exit)) (finding r) ⌝ }
 {
     let count = nodes.len() / NODE_STRIDE;
     if !takes(arcs, flows.len(), count) {
@@ -55,7 +56,8 @@ pub fn solve(arcs: &[u32], flows: &mut [u32], nodes: &mut [u32], room: &mut [u32
 fn solve_feasible(arcs: &[u32], flows: &mut [u32], nodes: &mut [u32], room: &mut [u32])
     requires { ⌜ Taken (net (now arcs) (length (now flows))) (size (now nodes)) (length (now room)) ⌝ }
     requires { ⌜ SomeFeasible (meant (net (now arcs) (length (now flows))) (size (now nodes))) ⌝ }
-    ensures { λ _. ⌜ Means (net (now (arcs .entry)) (length (now (flows .entry)))) (now (flows .entry)) (now (nodes .entry)) (now (room .entry)) (now (flows .exit)) (now (nodes .exit)) (now (room .exit)) Finding.solved ⌝ }
+    ensures { λ _. ⌜ Means (net (now (arcs .entry)) (length (now (flows .entry)))) (now (flows .entry)) (now (nodes .entry))
+        (now (room .entry)) (now (flows .exit)) (now (nodes .exit)) (now (room .exit)) Finding.solved ⌝ }
 {
     let end = NODE_STRIDE * (nodes.len() / NODE_STRIDE);
     if attempt(arcs, flows, &mut nodes[0..end], room) {

@@ -1,31 +1,31 @@
 // The test of a guess: whether flows, potentials and an order of the nodes show themselves to be the solution. Only what is shown is
 // proved: a solution that does not pass costs time and nothing else.
-use circulation::arc::flow_of;
-use circulation::arc::head_of;
-use circulation::arc::high_of;
-use circulation::arc::low_of;
-use circulation::arc::tail_of;
-use circulation::ends::asks_at;
-use circulation::ends::at_head;
-use circulation::ends::at_tail;
-use circulation::ends::stands_at;
-use circulation::input::low_start;
+use circulation::inside::asks_at;
+use circulation::inside::at_head;
+use circulation::inside::at_tail;
+use circulation::inside::count_deficits;
+use circulation::inside::count_of;
+use circulation::inside::flow_of;
+use circulation::inside::get;
+use circulation::inside::head_of;
+use circulation::inside::high_of;
+use circulation::inside::low_of;
+use circulation::inside::low_start;
+use circulation::inside::stands_at;
+use circulation::inside::tail_of;
 use circulation::limits::FLOW_LEAST;
 use circulation::limits::FLOW_MOST;
-use circulation::nodes::DEFICIT;
-use circulation::nodes::DEFICIT_ZERO;
-use circulation::nodes::ORDER;
-use circulation::nodes::PARENT;
-use circulation::nodes::count_of;
-use circulation::nodes::get;
-use circulation::start::count_deficits;
+use network::nodes::DEFICIT;
+use network::nodes::DEFICIT_ZERO;
+use network::nodes::ORDER;
+use network::nodes::PARENT;
 ghost use mathlib.Core.Path.{_≡_};
 ghost use Prim.Native.Nat.{_≤_, _<_};
 ghost use lib.ListN.{length};
 ghost use Rattle.network.specs.Net.{asks, at, net, stands};
 ghost use Rattle.network.specs.Limits.{«most-nodes»};
 ghost use Rattle.network.specs.WellFormed.{WellFormed};
-ghost use Rattle.circulation.specs.Nodes.{potentials, orders, size};
+ghost use Rattle.network.specs.Nodes.{potentials, orders, size};
 ghost use Rattle.circulation.specs.inside.Slackness.{Small};
 ghost use Rattle.circulation.specs.inside.Optimal.{Support, Supports};
 ghost use Rattle.leftmost.specs.inside.Shown.{Shown};
@@ -37,7 +37,8 @@ const ARC_ENDS: usize = 2;
 // Whether the flows fit the potentials and balance, and every node but ground is supported. The deficits of the nodes are counted anew.
 pub fn optimal(arcs: &[u32], flows: &[u32], nodes: &mut [u32]) -> bool
     requires { ⌜ WellFormed (net (now arcs) (length (now flows))) (size (now nodes)) ⌝ }
-    ensures { λ r. ⌜ Shown (Passes (net (now (arcs .entry)) (length (now (flows .entry)))) (size (now (nodes .entry))) (now (flows .entry)) (now (nodes .exit))) r ⌝ }
+    ensures { λ r. ⌜ Shown (Passes (net (now (arcs .entry)) (length (now (flows .entry)))) (size (now (nodes .entry)))
+        (now (flows .entry)) (now (nodes .exit))) r ⌝ }
 {
     if !low_start(nodes, count_of(nodes)) {
         return false;
@@ -56,7 +57,8 @@ pub fn optimal(arcs: &[u32], flows: &[u32], nodes: &mut [u32]) -> bool
 fn all_fit(arcs: &[u32], flows: &[u32], nodes: &[u32]) -> bool
     requires { ⌜ WellFormed (net (now arcs) (length (now flows))) (size (now nodes)) ⌝ }
     requires { ⌜ Small (at (potentials (now nodes))) ⌝ }
-    ensures { λ r. ⌜ Shown (AllFit (net (now (arcs .entry)) (length (now (flows .entry)))) (at (potentials (now (nodes .entry)))) (at (now (flows .entry)))) r ⌝ }
+    ensures { λ r. ⌜ Shown (AllFit (net (now (arcs .entry)) (length (now (flows .entry)))) (at (potentials (now (nodes .entry))))
+        (at (now (flows .entry)))) r ⌝ }
 {
     let mut i = 0;
     while i < flows.len() {
@@ -73,7 +75,8 @@ fn fits_at(arcs: &[u32], flows: &[u32], nodes: &[u32], i: usize) -> bool
     requires { ⌜ WellFormed (net (now arcs) (length (now flows))) (size (now nodes)) ⌝ }
     requires { ⌜ Small (at (potentials (now nodes))) ⌝ }
     requires { ⌜ i < length (now flows) ⌝ }
-    ensures { λ r. ⌜ Shown (FitsAt (net (now (arcs .entry)) (length (now (flows .entry)))) (at (potentials (now (nodes .entry)))) (at (now (flows .entry))) i) r ⌝ }
+    ensures { λ r. ⌜ Shown (FitsAt (net (now (arcs .entry)) (length (now (flows .entry)))) (at (potentials (now (nodes .entry))))
+        (at (now (flows .entry))) i) r ⌝ }
 {
     let stands = stands_at(arcs, nodes, i, flows.len());
     let asks = asks_at(arcs, nodes, i, flows.len());
@@ -115,7 +118,8 @@ fn fit(stands: usize, asks: usize, x: usize, low: usize, high: usize) -> bool
 fn all_supported(arcs: &[u32], flows: &[u32], nodes: &[u32]) -> bool
     requires { ⌜ WellFormed (net (now arcs) (length (now flows))) (size (now nodes)) ⌝ }
     requires { ⌜ Small (at (potentials (now nodes))) ⌝ }
-    ensures { λ r. ⌜ Shown (AllSupported (net (now (arcs .entry)) (length (now (flows .entry)))) (size (now (nodes .entry))) (at (potentials (now (nodes .entry)))) (at (now (flows .entry))) (at (orders (now (nodes .entry))))) r ⌝ }
+    ensures { λ r. ⌜ Shown (AllSupported (net (now (arcs .entry)) (length (now (flows .entry)))) (size (now (nodes .entry)))
+        (at (potentials (now (nodes .entry)))) (at (now (flows .entry))) (at (orders (now (nodes .entry))))) r ⌝ }
 {
     let ground = count_of(nodes) - 1;
     let mut v = 0;
@@ -133,7 +137,8 @@ fn supported(arcs: &[u32], flows: &[u32], nodes: &[u32], v: usize) -> bool
     requires { ⌜ WellFormed (net (now arcs) (length (now flows))) (size (now nodes)) ⌝ }
     requires { ⌜ Small (at (potentials (now nodes))) ⌝ }
     requires { ⌜ v < size (now nodes) ⌝ }
-    ensures { λ r. ⌜ Shown (Support (net (now (arcs .entry)) (length (now (flows .entry)))) (at (potentials (now (nodes .entry)))) (at (now (flows .entry))) (at (orders (now (nodes .entry)))) v) r ⌝ }
+    ensures { λ r. ⌜ Shown (Support (net (now (arcs .entry)) (length (now (flows .entry)))) (at (potentials (now (nodes .entry))))
+        (at (now (flows .entry))) (at (orders (now (nodes .entry)))) v) r ⌝ }
 {
     let i = get(nodes, v, PARENT) / ARC_ENDS;
     if i >= flows.len() {
@@ -147,7 +152,8 @@ fn supports(arcs: &[u32], flows: &[u32], nodes: &[u32], v: usize, i: usize) -> b
     requires { ⌜ WellFormed (net (now arcs) (length (now flows))) (size (now nodes)) ⌝ }
     requires { ⌜ Small (at (potentials (now nodes))) ⌝ }
     requires { ⌜ (v < size (now nodes)) × (i < length (now flows)) ⌝ }
-    ensures { λ r. ⌜ Shown (Supports (net (now (arcs .entry)) (length (now (flows .entry)))) (at (potentials (now (nodes .entry)))) (at (now (flows .entry))) (at (orders (now (nodes .entry)))) v i) r ⌝ }
+    ensures { λ r. ⌜ Shown (Supports (net (now (arcs .entry)) (length (now (flows .entry)))) (at (potentials (now (nodes .entry))))
+        (at (now (flows .entry))) (at (orders (now (nodes .entry)))) v i) r ⌝ }
 {
     if asks_at(arcs, nodes, i, flows.len()) != stands_at(arcs, nodes, i, flows.len()) {
         return false;

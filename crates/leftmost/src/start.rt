@@ -1,13 +1,13 @@
 // The circulation from the least solution of the hard constraints.
-use circulation::layout::NODE_STRIDE;
 use difference::least;
 use network::clear;
+use network::nodes::NODE_STRIDE;
 ghost use mathlib.Core.Path.{_≡_};
 ghost use Prim.Native.Nat.{_*_, _≤_};
 ghost use lib.ListN.{length};
 ghost use Rattle.network.specs.Net.{meant, net};
 ghost use Rattle.network.specs.Limits.{«most-nodes»};
-ghost use Rattle.circulation.specs.Nodes.{«node-stride», size};
+ghost use Rattle.network.specs.Nodes.{«node-stride», size};
 ghost use Rattle.leftmost.specs.Solutions.{Finding, Means, SomeFeasible, Taken};
 ghost use Rattle.leftmost.specs.inside.Potentials.{«potentials-to»};
 
@@ -15,7 +15,8 @@ ghost use Rattle.leftmost.specs.inside.Potentials.{«potentials-to»};
 pub fn circulate(arcs: &[u32], flows: &mut [u32], nodes: &mut [u32], room: &mut [u32])
     requires { ⌜ Taken (net (now arcs) (length (now flows))) (size (now nodes)) (length (now room)) ⌝ }
     requires { ⌜ SomeFeasible (meant (net (now arcs) (length (now flows))) (size (now nodes))) ⌝ }
-    ensures { λ _. ⌜ Means (net (now (arcs .entry)) (length (now (flows .entry)))) (now (flows .entry)) (now (nodes .entry)) (now (room .entry)) (now (flows .exit)) (now (nodes .exit)) (now (room .exit)) Finding.solved ⌝ }
+    ensures { λ _. ⌜ Means (net (now (arcs .entry)) (length (now (flows .entry)))) (now (flows .entry)) (now (nodes .entry))
+        (now (room .entry)) (now (flows .exit)) (now (nodes .exit)) (now (room .exit)) Finding.solved ⌝ }
 {
     let count = nodes.len() / NODE_STRIDE;
     let start = least(arcs, flows.len(), count, room);

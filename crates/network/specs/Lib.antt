@@ -6,6 +6,7 @@ pub mod Network
 pub mod Flows
 pub mod Packed
 pub mod Net
+pub mod Nodes
 pub mod Limits
 pub mod WellFormed
 pub mod laws

@@ -2,6 +2,7 @@
 mod form;
 pub mod layout;
 pub mod limits;
+pub mod nodes;
 
 use crate::form::arcs_ok;
 use crate::layout::STRIDE;

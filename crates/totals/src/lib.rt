@@ -31,7 +31,8 @@ const MOST: usize = 4294967295;
 // edges are none that a sheet has, all edges are one layer, and sums is as it was.
 pub fn total(edges: &[u32], first: &[u16], places: &[u16], sums: &mut [u32]) -> u32
     ensures answer { λ r. ⌜ r ≡ min u32-most (lengths-of (now (places .entry)) (now (edges .entry))) ⌝ }
-    ensures slice { λ r. ⌜ now (sums .exit) ≡ left-sums (now (first .entry)) (now (places .entry)) (now (edges .entry)) (now (sums .entry)) ⌝ }
+    ensures slice { λ r. ⌜ now (sums .exit) ≡ left-sums (now (first .entry)) (now (places .entry)) (now (edges .entry))
+        (now (sums .entry)) ⌝ }
 {
     let mut starts = [0u16; NODES];
     let mut chains = [0u16; LINKS];
@@ -58,7 +59,8 @@ fn add_up(
     requires { ⌜ length (now starts) ≡ min (length (now places)) max-nodes ⌝ }
     requires { ⌜ now chains ≡ replicate links 0 ⌝ }
     ensures answer { λ r. ⌜ r ≡ min u32-most (lengths-of (now (places .entry)) (now (edges .entry))) ⌝ }
-    ensures slice { λ r. ⌜ now (sums .exit) ≡ left-sums (now (first .entry)) (now (places .entry)) (now (edges .entry)) (now (sums .entry)) ⌝ }
+    ensures slice { λ r. ⌜ now (sums .exit) ≡ left-sums (now (first .entry)) (now (places .entry)) (now (edges .entry))
+        (now (sums .entry)) ⌝ }
 {
     if !rising(first) {
         return add_all(edges, places);
@@ -81,7 +83,8 @@ fn add_layers(
     requires { ⌜ T (rises (now first)) ⌝ }
     requires { ⌜ LayerChains (now first) (now edges) (now chains) ⌝ }
     ensures answer { λ r. ⌜ r ≡ min u32-most (lengths-of (now (places .entry)) (now (edges .entry))) ⌝ }
-    ensures slice { λ r. ⌜ now (sums .exit) ≡ with-sums (now (first .entry)) (now (places .entry)) (now (edges .entry)) (now (sums .entry)) ⌝ }
+    ensures slice { λ r. ⌜ now (sums .exit) ≡ with-sums (now (first .entry)) (now (places .entry)) (now (edges .entry))
+        (now (sums .entry)) ⌝ }
 {
     let mut sum = 0;
     let mut layer = first.len();

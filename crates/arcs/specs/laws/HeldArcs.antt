@@ -8,7 +8,6 @@ use lib.Dec.{T}
 use lib.ListN.{length, getD, take, drop, length-append, length-map}
 use lib.Seq.{take-at}
 use Rattle.leb128.specs.Format.Result.{elements}
-use Rattle.leb128.specs.Grammar.{Accepts}
 use Rattle.sheet.specs.Grammar.{sheet}
 use Rattle.sheet.specs.Reading.{read-sheet}
 use Rattle.sheet.specs.Layout.{node-count}

@@ -12,7 +12,8 @@ use lib.Signed.{leZ}
 use borrow.Author.Tests.{eq-eqb, ne-eqb, not-true, not-false}
 use Rattle.network.specs.Network.{unlimited, limit, Arc, potential, integers, past-kink, finite, at-least, at-most, legal, legal-at}
 use Rattle.network.specs.Flows.{allowed}
-use Rattle.network.specs.Packed.{tail-at, head-at, kink-at, low-at, high-at, stride, kink-zero, flow-zero, low-none, high-none, low-of, high-of, arc-at, flow-at}
+use Rattle.network.specs.Packed.{tail-at, head-at, kink-at, low-at, high-at, stride, kink-zero, flow-zero, low-none, high-none, low-of}
+use Rattle.network.specs.Packed.{high-of, arc-at, flow-at}
 use Rattle.network.specs.laws.IntegerParts.{sum-parts, up-neg, down-neg}
 use Rattle.network.specs.Integers.{down, up}
 use Rattle.drawing.specs.Drawing.{coordinate}
@@ -156,7 +157,8 @@ module _ (a : List ℕ) (y : List ℤ) (i : ℕ) {x : ℤ} {n : ℕ} {b : Bool} 
       (ap (λ (c : Bool). c && at-most (getD y i (pos 0)) (high-of (number a i high-at))) (sym at-low ∙ not-true b t))
 
   -- where it passes, the test of the high limit decides
-  pub above-low : not b ≡ false → {x : ℤ} {n : ℕ} {r : Bool} → x ≡ getD y i (pos 0) → Wide n (number a i high-at) → r ≡ at-most x (high-of n)
+  pub above-low : not b ≡ false → {x : ℤ} {n : ℕ} {r : Bool} → x ≡ getD y i (pos 0) → Wide n (number a i high-at)
+      → r ≡ at-most x (high-of n)
       → r ≡ allowed (flow-at a y i)
   above-low t same high e =
       e ∙ ap₂ (λ (y : ℤ) (n : ℕ). at-most y (high-of n)) same (high .is)

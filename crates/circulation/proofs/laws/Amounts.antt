@@ -10,7 +10,7 @@ use native.Mathlib.Nat.{le-refl}
 use native.Mathlib.Decide.{ℕ-discrete}
 use native.Mathlib.Omega.{arith}
 use lib.ListN.{length}
-use Rattle.circulation.specs.Nodes.{deficit-zero}
+use Rattle.network.specs.Nodes.{deficit-zero}
 
 -- no node has a greater residual than the source
 module _ {N : Net} {s t : ℕ} {p x e order parent residual : List ℕ} (r : Reached N s t p x e order parent residual) where

@@ -14,11 +14,12 @@ use native.Mathlib.Omega.{arith}
 use lib.ListN.{length}
 use Rattle.circulation.proofs.laws.Flows.{sum-pick}
 use Rattle.circulation.specs.laws.Picks.{pick-yes, pick-no}
-use Rattle.circulation.specs.Nodes.{potentials, deficits, residuals, node-stride, deficit-zero}
+use Rattle.network.specs.Nodes.{potentials, deficits, residuals, node-stride, deficit-zero}
 use Rattle.circulation.proofs.laws.Amounts.{amount-most}
 
 -- the deficits of the two ends are counted: the state is one again, and d less is left to move
-module _ {N : Net} {s t d : ℕ} {p x₀ x e order parent residual : List ℕ} (e′ : List ℕ) (r : Reached N s t p x₀ e order parent residual) (a : Amount s t d (at e) (at residual))
+module _ {N : Net} {s t d : ℕ} {p x₀ x e order parent residual : List ℕ} (e′ : List ℕ) (r : Reached N s t p x₀ e order parent residual)
+    (a : Amount s t d (at e) (at residual))
     (w : Walked N s t d p e x₀ x) (e-size : length e′ ≡ length e) (c : (v : ℕ) → at e′ v + pick s v d ≡ at e v + pick t v d) where
   -- s's deficit is as much
   pub source-fits : d + deficit-zero ≤ at e s
@@ -79,8 +80,10 @@ module _ {N : Net} {s t d : ℕ} {p x₀ x e order parent residual : List ℕ} (
       was-excess y few (no ne) (no nt) = omega (arith, at-y y ne nt)
 
 -- the same over packed nodes
-pub augments : {N : Net} {s t d : ℕ} {x₀ x nodes : List ℕ} (new : List ℕ) → ReachedAt N s t x₀ nodes → Amount s t d (at (deficits nodes)) (at (residuals nodes))
-    → Walked N s t d (potentials nodes) (deficits nodes) x₀ x → ((v : ℕ) → at (deficits new) v + pick s v d ≡ at (deficits nodes) v + pick t v d) → Apart 1 nodes new → Augments N x nodes new
+pub augments : {N : Net} {s t d : ℕ} {x₀ x nodes : List ℕ} (new : List ℕ) → ReachedAt N s t x₀ nodes
+    → Amount s t d (at (deficits nodes)) (at (residuals nodes))
+    → Walked N s t d (potentials nodes) (deficits nodes) x₀ x → ((v : ℕ)
+    → at (deficits new) v + pick s v d ≡ at (deficits nodes) v + pick t v d) → Apart 1 nodes new → Augments N x nodes new
 augments {N} {s} {t} {d} {x₀} {x} {nodes} new r a w c only = record {
   state =
       subst (λ (l : List ℕ). State N l x (deficits new)) (sym (only .others 0 (omega arith) (λ e. omega arith)))
@@ -99,5 +102,6 @@ augments {N} {s} {t} {d} {x₀} {x} {nodes} new r a w c only = record {
     e-size : length (deficits new) ≡ length (deficits nodes)
     e-size = omega (arith, column-length 1 new, column-length 1 nodes, only .length-same)
 
-    at-size : (n : ℕ) (e : List ℕ) → length (potentials nodes) ≡ n → total-deficit (length (potentials nodes)) (at e) ≡ total-deficit n (at e)
+    at-size : (n : ℕ) (e : List ℕ) → length (potentials nodes) ≡ n
+        → total-deficit (length (potentials nodes)) (at e) ≡ total-deficit n (at e)
     at-size n e is = ap (λ (k : ℕ). total-deficit k (at e)) is

@@ -2,7 +2,7 @@
 use Rattle.network.specs.laws.SumsTo.{at-set}
 use Rattle.network.specs.Net.{at}
 use Rattle.circulation.specs.inside.Slackness.{pick}
-use Rattle.circulation.specs.Nodes.{deficits, node-stride}
+use Rattle.network.specs.Nodes.{deficits, node-stride}
 use Rattle.circulation.specs.inside.Stores.{Stored, Apart}
 use mathlib.Core.Path.{_≡_, sym, ap, _∙_}
 use mathlib.Core.List.{List}

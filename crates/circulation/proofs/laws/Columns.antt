@@ -1,7 +1,7 @@
 -- Packed numbers as columns: a store changes one place of one column. By extensionality of lists.
 use Rattle.network.specs.Net.{at}
 use Rattle.circulation.specs.laws.Columns.{column-length, column-at, column-past}
-use Rattle.circulation.specs.Nodes.{column, orders, residuals, node-stride}
+use Rattle.network.specs.Nodes.{column, orders, residuals, node-stride}
 use Rattle.circulation.specs.inside.Stores.{Stored, Apart, Reaches, Begun}
 use mathlib.Core.Path.{_≡_, refl, sym, ap, _∙_}
 use mathlib.Core.List.{List}

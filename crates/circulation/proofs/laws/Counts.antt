@@ -3,7 +3,7 @@ use Rattle.network.specs.laws.SumsTo.{sum-to-le, sum-to-add, sum-to-bound}
 use Rattle.network.specs.Net.{at, Net, arcs, tail, head}
 use Rattle.network.specs.Sums.{sum-to}
 use Rattle.circulation.specs.inside.Slackness.{pick, flow, inflow, outflow, Countable}
-use Rattle.circulation.specs.Nodes.{deficit-zero}
+use Rattle.network.specs.Nodes.{deficit-zero}
 use mathlib.Core.Path.{_≡_, refl, subst, _∙_}
 use mathlib.Core.List.{List}
 use Prim.Native.Nat.{ℕ, _+_, _-_, _≤_, _<_}

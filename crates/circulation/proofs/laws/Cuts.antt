@@ -17,7 +17,7 @@ use borrow.Author.Tests.{eq-eqb, ne-eqb}
 use lib.Dec.{eqb}
 use Rattle.circulation.specs.laws.Picks.{pick-yes, pick-no}
 use Rattle.network.specs.Packed.{flow-zero}
-use Rattle.circulation.specs.Nodes.{deficit-zero}
+use Rattle.network.specs.Nodes.{deficit-zero}
 
 -- a where the place o in the order is not 0, else 0
 keep : ℕ → ℕ → ℕ
@@ -49,7 +49,8 @@ keep-sum o m f = go (ℕ-discrete o 0)
 keep-pick : (n u a : ℕ) (order : ℕ → ℕ) → u < n → sum-to n (λ v. keep (order v) (pick u v a)) ≡ keep (order u) a
 keep-pick n u a order l = omega (
   arith,
-  sum-to-change n (λ v. keep (order v) (pick u v a)) (λ v. 0) u l (λ w w-in ne. none (order w) (pick u w a) (pick-no u w a (λ e. ne (sym e)))),
+  sum-to-change n (λ v. keep (order v) (pick u v a)) (λ v. 0) u l
+      (λ w w-in ne. none (order w) (pick u w a) (pick-no u w a (λ e. ne (sym e)))),
   sum-to-zero n,
   ap (keep (order u)) (pick-yes u u a refl),
 )
@@ -65,9 +66,11 @@ keep-pick n u a order l = omega (
 keep-flow : (n m : ℕ) (ends x order : ℕ → ℕ) → ((i : ℕ) → i < m → ends i < n)
     → sum-to n (λ v. keep (order v) (flow m ends x v)) ≡ sum-to m (λ i. keep (order (ends i)) (x i))
 keep-flow n m ends x order inside =
-    sum-to-eq n (λ v. keep (order v) (flow m ends x v)) (λ v. sum-to m (λ i. keep (order v) (pick (ends i) v (x i)))) (λ v l. keep-sum (order v) m (λ i. pick (ends i) v (x i)))
+    sum-to-eq n (λ v. keep (order v) (flow m ends x v)) (λ v. sum-to m (λ i. keep (order v) (pick (ends i) v (x i))))
+    (λ v l. keep-sum (order v) m (λ i. pick (ends i) v (x i)))
     ∙ sum-to-swap n m (λ v i. keep (order v) (pick (ends i) v (x i)))
-    ∙ sum-to-eq m (λ i. sum-to n (λ v. keep (order v) (pick (ends i) v (x i)))) (λ i. keep (order (ends i)) (x i)) (λ i l. keep-pick n (ends i) (x i) order (inside i l))
+    ∙ sum-to-eq m (λ i. sum-to n (λ v. keep (order v) (pick (ends i) v (x i)))) (λ i. keep (order (ends i)) (x i))
+    (λ i l. keep-pick n (ends i) (x i) order (inside i l))
 
 -- and summand by summand
 keep-add : (o a b : ℕ) → keep o (a + b) ≡ keep o a + keep o b
@@ -77,11 +80,13 @@ keep-add o a b = go (ℕ-discrete o 0)
     go (yes e) = omega (arith, keep-out o (a + b) e, keep-out o a e, keep-out o b e)
     go (no ne) = omega (arith, keep-in o (a + b) (omega arith), keep-in o a (omega arith), keep-in o b (omega arith))
 
-module _ (N : Net) (n : ℕ) (p x order e : ℕ → ℕ) (wf : WellFormed N n) (limited : Limited N) (slack : Slack N p x) (deficits : Deficits N n x e)
+module _ (N : Net) (n : ℕ) (p x order e : ℕ → ℕ) (wf : WellFormed N n) (limited : Limited N) (slack : Slack N p x)
+    (deficits : Deficits N n x e)
     (none : (i : ℕ) → i < arcs N → Crosses N p x order i → ⊥) where
   -- no arc that ends in the set carries flow out of it
   crossing : (i : ℕ) → i < arcs N
-      → keep (order (tail N i)) (x i) + keep (order (head N i)) flow-zero ≤ keep (order (head N i)) (x i) + keep (order (tail N i)) flow-zero
+      → keep (order (tail N i)) (x i) + keep (order (head N i)) flow-zero
+      ≤ keep (order (head N i)) (x i) + keep (order (tail N i)) flow-zero
   crossing i l = go (ℕ-discrete (order (tail N i)) 0) (ℕ-discrete (order (head N i)) 0)
     where
       full : 0 < order (head N i) → order (tail N i) ≡ 0 → flow-zero ≤ x i
@@ -101,7 +106,8 @@ module _ (N : Net) (n : ℕ) (p x order e : ℕ → ℕ) (wf : WellFormed N n) (
           try (no le) (no all) = omega (arith, limited .each i l .low-in .top)
 
       go : Dec (order (tail N i) ≡ 0) → Dec (order (head N i) ≡ 0)
-          → keep (order (tail N i)) (x i) + keep (order (head N i)) flow-zero ≤ keep (order (head N i)) (x i) + keep (order (tail N i)) flow-zero
+          → keep (order (tail N i)) (x i) + keep (order (head N i)) flow-zero
+          ≤ keep (order (head N i)) (x i) + keep (order (tail N i)) flow-zero
       go (yes te) (yes he) = omega (arith, keep-out (order (tail N i)) (x i) te, keep-out (order (head N i)) flow-zero he)
       go (yes te) (no hn) =
           omega (
@@ -131,15 +137,20 @@ module _ (N : Net) (n : ℕ) (p x order e : ℕ → ℕ) (wf : WellFormed N n) (
   kept-out : sum-to n (λ v. keep (order v) (outflow N (arcs N) x v)) ≤ sum-to n (λ v. keep (order v) (inflow N (arcs N) x v))
   kept-out = omega (
     arith,
-    sum-to-eq n (λ v. keep (order v) (outflow N (arcs N) x v)) (λ v. keep (order v) (flow (arcs N) (tail N) x v) + keep (order v) (flow (arcs N) (head N) (λ i. flow-zero) v)) (λ v l. keep-add (order v) (flow (arcs N) (tail N) x v) (flow (arcs N) (head N) (λ i. flow-zero) v)),
-    sum-to-eq n (λ v. keep (order v) (inflow N (arcs N) x v)) (λ v. keep (order v) (flow (arcs N) (head N) x v) + keep (order v) (flow (arcs N) (tail N) (λ i. flow-zero) v)) (λ v l. keep-add (order v) (flow (arcs N) (head N) x v) (flow (arcs N) (tail N) (λ i. flow-zero) v)),
+    sum-to-eq n (λ v. keep (order v) (outflow N (arcs N) x v)) (λ v. keep (order v) (flow (arcs N) (tail N) x v) + keep (order v)
+        (flow (arcs N) (head N) (λ i. flow-zero) v)) (λ v l. keep-add (order v) (flow (arcs N) (tail N) x v)
+        (flow (arcs N) (head N) (λ i. flow-zero) v)),
+    sum-to-eq n (λ v. keep (order v) (inflow N (arcs N) x v)) (λ v. keep (order v) (flow (arcs N) (head N) x v) + keep (order v)
+        (flow (arcs N) (tail N) (λ i. flow-zero) v)) (λ v l. keep-add (order v) (flow (arcs N) (head N) x v)
+        (flow (arcs N) (tail N) (λ i. flow-zero) v)),
     sum-to-add n (λ v. keep (order v) (flow (arcs N) (tail N) x v)) (λ v. keep (order v) (flow (arcs N) (head N) (λ i. flow-zero) v)),
     sum-to-add n (λ v. keep (order v) (flow (arcs N) (head N) x v)) (λ v. keep (order v) (flow (arcs N) (tail N) (λ i. flow-zero) v)),
     keep-flow n (arcs N) (tail N) x order (λ i l. wf .arc-in i l .tail-in),
     keep-flow n (arcs N) (head N) x order (λ i l. wf .arc-in i l .head-in),
     keep-flow n (arcs N) (tail N) (λ i. flow-zero) order (λ i l. wf .arc-in i l .tail-in),
     keep-flow n (arcs N) (head N) (λ i. flow-zero) order (λ i l. wf .arc-in i l .head-in),
-    sum-to-le (arcs N) (λ i. keep (order (tail N i)) (x i) + keep (order (head N i)) flow-zero) (λ i. keep (order (head N i)) (x i) + keep (order (tail N i)) flow-zero) crossing,
+    sum-to-le (arcs N) (λ i. keep (order (tail N i)) (x i) + keep (order (head N i)) flow-zero)
+        (λ i. keep (order (head N i)) (x i) + keep (order (tail N i)) flow-zero) crossing,
     sum-to-add (arcs N) (λ i. keep (order (tail N i)) (x i)) (λ i. keep (order (head N i)) flow-zero),
     sum-to-add (arcs N) (λ i. keep (order (head N i)) (x i)) (λ i. keep (order (tail N i)) flow-zero),
   )
@@ -149,8 +160,15 @@ module _ (N : Net) (n : ℕ) (p x order e : ℕ → ℕ) (wf : WellFormed N n) (
   no-deficit full s s-in reached more = omega (
     arith,
     kept-out,
-    sum-to-lt n (λ v. keep (order v) (inflow N (arcs N) x v)) (λ v. keep (order v) (outflow N (arcs N) x v)) (λ v l. one v l (ℕ-discrete (order v) 0)) s s-in
-        (omega (arith, keep-in (order s) (inflow N (arcs N) x s) reached, keep-in (order s) (outflow N (arcs N) x s) reached, deficits .each s s-in)),
+    sum-to-lt n (λ v. keep (order v) (inflow N (arcs N) x v)) (λ v. keep (order v) (outflow N (arcs N) x v))
+        (λ v l. one v l (ℕ-discrete (order v) 0)) s s-in
+        (omega (
+          arith,
+          keep-in (order s) (inflow N (arcs N) x s) reached,
+          keep-in (order s)
+              (outflow N (arcs N) x s) reached,
+          deficits .each s s-in,
+        )),
   )
     where
       one : (v : ℕ) → v < n → Dec (order v ≡ 0) → keep (order v) (inflow N (arcs N) x v) ≤ keep (order v) (outflow N (arcs N) x v)

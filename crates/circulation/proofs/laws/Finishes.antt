@@ -2,7 +2,7 @@
 use Rattle.network.specs.Net.{at, Net, head}
 use Rattle.network.specs.Packed.{kink-zero}
 use Rattle.circulation.specs.laws.Columns.{column-length}
-use Rattle.circulation.specs.Nodes.{column, potentials, size, node-stride, potential-zero}
+use Rattle.network.specs.Nodes.{column, potentials, size, node-stride, potential-zero}
 use Rattle.network.specs.WellFormed.{WellFormed}
 use Rattle.circulation.specs.Input.{Feasible, Hangs, Rooted}
 use Rattle.circulation.specs.inside.Stores.{Stored, Apart}

@@ -1,9 +1,9 @@
--- The step of an arc is how far the reached nodes rise until it lets a node be reached, and a scan finds the least: case by case on which end
--- is reached.
+-- The step of an arc is how far the reached nodes rise until it lets a node be reached, and a scan finds the least: case by case on which
+-- end is reached.
 use Rattle.network.specs.Net.{at, Net, arcs, tail, head, asks, stands}
 use Rattle.circulation.specs.inside.Search.{Enters, Leaves, Distance, never, StepBy, StepAt, Crosses, Crossing, step}
 use Rattle.circulation.specs.inside.Slackness.{Ready}
-use Rattle.circulation.specs.Nodes.{potentials, size}
+use Rattle.network.specs.Nodes.{potentials, size}
 use Rattle.circulation.specs.laws.Columns.{column-length}
 use Rattle.network.specs.WellFormed.{WellFormed}
 use mathlib.Core.List.{List}

@@ -1,7 +1,7 @@
 -- After a search from the ground that reached every node the potentials are the leftmost of least cost: every node is supported by
 -- the arc over which it was reached, in the order of reaching.
 use Rattle.network.specs.Net.{at, Net}
-use Rattle.circulation.specs.Nodes.{potentials, orders, parents, residuals, size}
+use Rattle.network.specs.Nodes.{potentials, orders, parents, residuals, size}
 use Rattle.circulation.specs.inside.Steps.{Flooded}
 use Rattle.circulation.specs.inside.Finish.{Settled}
 use Rattle.circulation.specs.inside.Optimal.{Support}
@@ -46,5 +46,6 @@ flooded-solution N n x nodes new wf size-is bal f settled =
     settled
   where
     tree : Tree N n (n - 1) (at (potentials nodes)) (at x) (at (orders nodes)) (at (parents nodes)) (at (residuals nodes))
-    tree = subst (λ (k : ℕ). Tree N k (n - 1) (at (potentials nodes)) (at x) (at (orders nodes)) (at (parents nodes)) (at (residuals nodes)))
+    tree = subst (λ (k : ℕ). Tree N k (n - 1) (at (potentials nodes)) (at x) (at (orders nodes)) (at (parents nodes))
+        (at (residuals nodes)))
         (column-length 0 nodes ∙ size-is) (f .grown .tree)

@@ -2,7 +2,7 @@
 use Rattle.network.specs.Net.{at}
 use Rattle.circulation.specs.inside.Search.{lift, lifted, Moved}
 use Rattle.circulation.specs.inside.Slackness.{Small}
-use Rattle.circulation.specs.Nodes.{potentials, orders, node-stride}
+use Rattle.network.specs.Nodes.{potentials, orders, node-stride}
 use Rattle.circulation.specs.inside.Stores.{Stored, Apart}
 use mathlib.Core.Path.{_≡_, refl, ap, _∙_}
 use mathlib.Core.Logic.{_⊎_, inl, inr, ⊎-elim}
@@ -82,14 +82,20 @@ module _ {d : ℕ} {nodes₀ : List ℕ} where
         here : at (potentials new) v ≡ lifted (at (orders nodes₀)) (at (potentials nodes₀)) d v
         here =
             ap (λ (o : List ℕ). at o v) (s .same)
-            ∙ (getD-set-same (potentials nodes) v (lift (at (orders nodes) v) (at (potentials nodes) v) d) 0 (omega (arith, column-length 0 nodes, m .only .length-same))
-            ∙ (ap (λ (o : ℕ). lift o (at (potentials nodes) v) d) (ap (λ (o : List ℕ). at o v) (orders-kept (m .only))) ∙ ap (λ (b : ℕ). lift (at (orders nodes₀) v) b d) (m .rest v (le-refl _))))
+            ∙ (getD-set-same (potentials nodes) v (lift (at (orders nodes) v) (at (potentials nodes) v) d) 0
+            (omega (arith, column-length 0 nodes, m .only .length-same))
+            ∙ (ap (λ (o : ℕ). lift o (at (potentials nodes) v) d) (ap (λ (o : List ℕ). at o v) (orders-kept (m .only)))
+            ∙ ap (λ (b : ℕ). lift (at (orders nodes₀) v) b d) (m .rest v (le-refl _))))
 
   -- all are
   pub move-end : {nodes : List ℕ} {v : ℕ} → Moving d nodes₀ nodes v → length nodes₀ / node-stride ≤ v → Small (at (potentials nodes₀))
       → ((u : ℕ) → u < length nodes₀ / node-stride → 0 < at (orders nodes₀) u → at (potentials nodes₀) u + d ≤ potential-limit)
       → Moved (length nodes₀ / node-stride) d (at (orders nodes₀)) (at (potentials nodes₀)) (at (potentials nodes))
-  move-end {nodes} {v} m past small fits = record { moved = λ k l. m .moved k (omega arith); small = λ k. go k (decLt k (length nodes₀ / node-stride)) }
+  move-end {nodes} {v} m past small fits = record {
+    moved = λ k l. m .moved k (omega arith);
+    small = λ k. go k
+        (decLt k (length nodes₀ / node-stride));
+  }
     where
       go : (k : ℕ) → Dec (k < length nodes₀ / node-stride) → at (potentials nodes) k ≤ potential-limit
       go k (yes l) = ⊎-elim

@@ -1,7 +1,7 @@
 -- The whole nodes are the front of the slice: they are lent, and put back before what stands behind them.
 use Rattle.network.specs.Net.{at, Net}
 use Rattle.circulation.specs.laws.Columns.{column-length, column-at}
-use Rattle.circulation.specs.Nodes.{column, potentials, size, node-stride}
+use Rattle.network.specs.Nodes.{column, potentials, size, node-stride}
 use Rattle.circulation.specs.Input.{Valid}
 use Rattle.circulation.specs.Solutions.{Solution, Cleared}
 use Rattle.circulation.specs.inside.Finish.{Zeroed}

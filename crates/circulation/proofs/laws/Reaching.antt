@@ -1,7 +1,7 @@
 -- The residual over an arc, and a node more that is reached, from what the calls answer.
 use Rattle.network.specs.Net.{at, Net, arcs, tail, head, low, high}
 use Rattle.circulation.specs.Input.{Limited}
-use Rattle.circulation.specs.Nodes.{potentials, orders, parents, residuals, size, node-stride}
+use Rattle.network.specs.Nodes.{potentials, orders, parents, residuals, size, node-stride}
 use Rattle.circulation.specs.inside.Stores.{Apart, Reaches}
 use Rattle.circulation.specs.inside.Search.{ResidualOver, Moved, step}
 use Rattle.circulation.specs.inside.Steps.{Nearest, GrownAt, Extends, Extended}
@@ -36,11 +36,18 @@ module _ {N : Net} {x residual : ℕ → ℕ} {i v a b r : ℕ} (l : (r ≤ a) �
   pub residual-down : (tail N i ≡ v → ⊥) → a ≡ x i - low N i → b ≡ residual (tail N i) → ResidualOver N x residual i v r
   residual-down ne ea eb = record {
     up = λ same. absurd (ne same);
-    down = λ other more some. (l .2 (omega arith) (omega arith), omega (arith, l .0, l .2 (omega arith) (omega arith)), omega (arith, l .1));
+    down = λ other more some. (
+      l .2 (omega arith) (omega arith),
+      omega (arith, l .0, l .2 (omega arith) (omega arith)),
+      omega
+          (arith, l .1),
+    );
   }
 
-module _ {N : Net} {s count : ℕ} {x nodes : List ℕ} (g : GrownAt N s count x nodes) (i d : ℕ) (near : Nearest N (arcs N) (at (potentials nodes)) (at x) (at (orders nodes)) i) (is-step : d ≡ step N (at (potentials nodes)) i)
-    (one : List ℕ) (m : Moved (length nodes / node-stride) d (at (orders nodes)) (at (potentials nodes)) (at (potentials one))) (only : Apart 0 nodes one)
+module _ {N : Net} {s count : ℕ} {x nodes : List ℕ} (g : GrownAt N s count x nodes) (i d : ℕ)
+    (near : Nearest N (arcs N) (at (potentials nodes)) (at x) (at (orders nodes)) i) (is-step : d ≡ step N (at (potentials nodes)) i)
+    (one : List ℕ) (m : Moved (length nodes / node-stride) d (at (orders nodes)) (at (potentials nodes)) (at (potentials one)))
+    (only : Apart 0 nodes one)
     (v : ℕ) (at-head : at (orders one) (head N i) ≡ 0 → v ≡ head N i) (at-tail : 0 < at (orders one) (head N i) → v ≡ tail N i)
     (r : ℕ) (over : ResidualOver N (at x) (at (residuals one)) i v r) where
   -- the order is as before the step
@@ -56,7 +63,8 @@ module _ {N : Net} {s count : ℕ} {x nodes : List ℕ} (g : GrownAt N s count x
   same-residuals = only .others 4 (omega arith) (λ e. omega arith)
 
   -- the search with one node more, over lists
-  ext : Extends N s count x (potentials nodes) (orders nodes) (potentials one) (set (orders nodes) v (count + 1)) (set (parents nodes) v i) (set (residuals nodes) v r) v
+  ext : Extends N s count x (potentials nodes) (orders nodes) (potentials one) (set (orders nodes) v (count + 1))
+      (set (parents nodes) v i) (set (residuals nodes) v r) v
   ext = extends g i d near is-step v r (subst (λ (l : List ℕ). ResidualOver N (at x) (at l) i v r) same-residuals over) (potentials one)
       (omega (arith, column-length 0 one, column-length 0 nodes, only .length-same))
       (subst (λ (n : ℕ). Moved n d (at (orders nodes)) (at (potentials nodes)) (at (potentials one))) (sym (column-length 0 nodes)) m)

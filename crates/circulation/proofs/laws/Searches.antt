@@ -22,7 +22,7 @@ use Rattle.circulation.proofs.laws.Flows.{in-is-out}
 use Rattle.circulation.proofs.laws.Bounds.{search-top}
 use Rattle.circulation.proofs.laws.Cuts.{no-deficit}
 use Rattle.network.specs.Packed.{flow-zero}
-use Rattle.circulation.specs.Nodes.{deficit-zero}
+use Rattle.network.specs.Nodes.{deficit-zero}
 use Rattle.circulation.specs.Limits.{rested-limit}
 
 -- no node is reached
@@ -43,7 +43,8 @@ pub record Searching (N : Net) (s count : ℕ) (p₀ p x e order parent residual
   pub kept : (v : ℕ) → v < length p → at order v ≡ 0 → at p v ≡ at p₀ v
 
 -- a search that has reached only s
-module _ {N : Net} (p x order parent residual : List ℕ) (s : ℕ) (s-in : s < length p) (wf : WellFormed N (length p)) (limited : Limited N) (x-size : length x ≡ arcs N) (small : Low (at p)) (slack : Slack N (at p) (at x))
+module _ {N : Net} (p x order parent residual : List ℕ) (s : ℕ) (s-in : s < length p) (wf : WellFormed N (length p)) (limited : Limited N)
+    (x-size : length x ≡ arcs N) (small : Low (at p)) (slack : Slack N (at p) (at x))
     (order-size : length order ≡ length p) (parent-size : length parent ≡ length p) (residual-size : length residual ≡ length p)
     (root : at order s ≡ 1) (alone : (v : ℕ) → (v ≡ s → ⊥) → at order v ≡ 0) (some : 0 < at residual s) where
   -- no other node is reached
@@ -60,7 +61,8 @@ module _ {N : Net} (p x order parent residual : List ℕ) (s : ℕ) (s-in : s < 
       let none : _≡_ {A = ℕ} (cond (eqb (at order s) 0) 1 0) 0 = rw (ne-eqb (at order s) 0 (λ e. omega arith)) in
       omega (
         arith,
-        sum-to-change (length p) (λ v. cond (eqb (at order v) 0) 1 0) (λ v. cond (eqb 0 0) 1 0) s s-in (λ v l ne. ap (λ (o : ℕ). cond (eqb o 0) 1 0) (alone v ne)),
+        sum-to-change (length p) (λ v. cond (eqb (at order v) 0) 1 0) (λ v. cond (eqb 0 0) 1 0) s s-in
+            (λ v l ne. ap (λ (o : ℕ). cond (eqb o 0) 1 0) (alone v ne)),
         all-unreached (length p) (λ v. 0) (λ v. refl),
         one,
         none,
@@ -86,13 +88,15 @@ module _ {N : Net} (p x order parent residual : List ℕ) (s : ℕ) (s-in : s < 
 -- a search that has reached only s keeps what it must
 pub search-start : {N : Net} {p x e order parent residual : List ℕ} (s : ℕ) → s < length p → State N p x e
     → length order ≡ length p → length parent ≡ length p → length residual ≡ length p
-    → at order s ≡ 1 → ((v : ℕ) → (v ≡ s → ⊥) → at order v ≡ 0) → 0 < at residual s → at residual s + deficit-zero ≤ at e s → Searching N s 1 p p x e order parent residual
+    → at order s ≡ 1 → ((v : ℕ) → (v ≡ s → ⊥) → at order v ≡ 0) → 0 < at residual s → at residual s + deficit-zero ≤ at e s
+    → Searching N s 1 p p x e order parent residual
 search-start {N} {p} {x} {e} {order} {parent} {residual} s s-in st order-size parent-size residual-size root alone some fits = record {
   state = st;
   root-fits = fits;
   size-same = refl;
   grown =
-      begin-grown p x order parent residual s s-in (st .wf) (st .limited) (st .x-size) (st .p-in) (st .slack) order-size parent-size residual-size
+      begin-grown p x order parent residual s s-in (st .wf) (st .limited) (st .x-size) (st .p-in)
+      (st .slack) order-size parent-size residual-size
       root alone some;
   full = λ v l r. elim (ℕ-discrete v s) [
     | yes same ↦ omega (arith, ap (at e) same)
@@ -105,11 +109,13 @@ search-start {N} {p} {x} {e} {order} {parent} {residual} s s-in st order-size pa
 pub search-crosses : {N : Net} {s count : ℕ} {p₀ p x e order parent residual : List ℕ}
     → Searching N s count p₀ p x e order parent residual → Crossing N (at p) (at x) (at order)
 search-crosses {N} {s} {count} {p₀} {p} {x} {e} {order} g none =
-    no-deficit N (length p) (at p) (at x) (at order) (at e) (g .grown .ready .wf) (g .grown .ready .limited) (g .grown .slack) (rw (g .size-same) (g .state .deficits-are)) none
+    no-deficit N (length p) (at p) (at x) (at order) (at e) (g .grown .ready .wf) (g .grown .ready .limited) (g .grown .slack)
+    (rw (g .size-same) (g .state .deficits-are)) none
     (g .full) s (g .grown .tree .s-in) (omega (arith, g .grown .tree .root)) (omega (arith, g .root-fits, g .grown .tree .root-residual))
 
 module _ {N : Net} {s count : ℕ} {p₀ p x e order parent residual p′ order′ parent′ residual′ : List ℕ} (v : ℕ)
-    (g : Searching N s count p₀ p x e order parent residual) (m : Extends N s count x p order p′ order′ parent′ residual′ v) (same-residual : at residual′ s ≡ at residual s) where
+    (g : Searching N s count p₀ p x e order parent residual) (m : Extends N s count x p order p′ order′ parent′ residual′ v)
+    (same-residual : at residual′ s ≡ at residual s) where
   -- who is reached now and is not v was before
   reached-before : (u : ℕ) → 0 < at order′ u → (u ≡ v → ⊥) → 0 < at order u
   reached-before u l ne =

@@ -4,7 +4,7 @@ use Rattle.network.specs.Net.{at, Net, net, arcs, tail, head, low, high, asks, 
 use Rattle.circulation.specs.inside.Slackness.{flow, inflow, outflow, Slack, FilledAt}
 use Rattle.network.specs.WellFormed.{WellFormed}
 use Rattle.circulation.specs.Input.{LowIn, HighIn, LimitsIn, Limited, Feasible, Valid}
-use Rattle.circulation.specs.Nodes.{potentials, deficits, node-stride, deficit-zero}
+use Rattle.network.specs.Nodes.{potentials, deficits, node-stride, deficit-zero}
 use Rattle.circulation.specs.inside.Stores.{Apart}
 use Rattle.circulation.specs.inside.Search.{Deficits, total-deficit, State}
 use mathlib.Core.Path.{_≡_, refl, sym, subst}
@@ -82,12 +82,13 @@ module _ {N : Net} {n : ℕ} (p x : ℕ → ℕ) (wf : WellFormed N n) (limited 
   pub first-total : {e : ℕ → ℕ} → Deficits N n x e → total-deficit n e ≤ 16777216
   first-total {e} ex = omega (
     arith,
-    sum-to-le n (λ v. e v - deficit-zero) (λ v. flow (arcs N) (tail N) (λ i. 1024) v + flow (arcs N) (head N) (λ i. 1024) v) (λ v v-in. omega (
-      arith,
-      ex .each v v-in,
-      flow-near (arcs N) 1024 (tail N) x (λ i. flow-zero) v (λ i l. omega (arith, first-near i l .1)),
-      flow-near (arcs N) 1024 (head N) (λ i. flow-zero) x v (λ i l. omega (arith, first-near i l .0)),
-    )),
+    sum-to-le n (λ v. e v - deficit-zero) (λ v. flow (arcs N) (tail N) (λ i. 1024) v + flow (arcs N) (head N) (λ i. 1024) v)
+        (λ v v-in. omega (
+          arith,
+          ex .each v v-in,
+          flow-near (arcs N) 1024 (tail N) x (λ i. flow-zero) v (λ i l. omega (arith, first-near i l .1)),
+          flow-near (arcs N) 1024 (head N) (λ i. flow-zero) x v (λ i l. omega (arith, first-near i l .0)),
+        )),
     sum-to-add n (flow (arcs N) (tail N) (λ i. 1024)) (flow (arcs N) (head N) (λ i. 1024)),
     flow-total n (arcs N) (tail N) (λ i. 1024) (λ i l. wf .arc-in i l .tail-in),
     flow-total n (arcs N) (head N) (λ i. 1024) (λ i l. wf .arc-in i l .head-in),
@@ -126,9 +127,11 @@ filled-top N p i y a f =
     go (no nl) (no nr) h = omega (arith, f .on (omega arith))
 
 -- the state after the first flows are stored and the deficits counted
-pub run-start : (list x₀ x nodes new : List ℕ) → Valid (net list (length x₀)) (length nodes / node-stride) (potentials nodes) → length x ≡ length x₀
+pub run-start : (list x₀ x nodes new : List ℕ) → Valid (net list (length x₀)) (length nodes / node-stride) (potentials nodes)
+    → length x ≡ length x₀
     → ((i : ℕ) → i < length x₀ → FilledAt (net list (length x₀)) (at (potentials nodes)) i (at x i))
-    → ((v : ℕ) → v < length nodes / node-stride → at (deficits new) v + inflow (net list (length x)) (length x) (at x) v ≡ deficit-zero + outflow (net list (length x)) (length x) (at x) v)
+    → ((v : ℕ) → v < length nodes / node-stride → at (deficits new) v + inflow (net list (length x)) (length x) (at x) v
+    ≡ deficit-zero + outflow (net list (length x)) (length x) (at x) v)
     → Apart 1 nodes new → State (net list (length x)) (potentials new) x (deficits new)
 run-start list x₀ x nodes new v same filled is-deficit only =
     rw (only .others 0 (omega arith) (λ e. omega arith)) (first-state x (deficits new)

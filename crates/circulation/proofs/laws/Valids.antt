@@ -1,6 +1,6 @@
 -- The tests of the input say what they test: an arc is on a forbidden side exactly where its first flow would be unlimited.
 use Rattle.network.specs.Net.{at, Net, arcs, asks, stands, HardLow, HardHigh}
-use Rattle.circulation.specs.Nodes.{potentials, node-stride}
+use Rattle.network.specs.Nodes.{potentials, node-stride}
 use Rattle.circulation.specs.Input.{Feasible, LimitsIn, First}
 use Rattle.circulation.specs.inside.Slackness.{FilledAt, Small}
 use mathlib.Core.Path.{_≡_}

@@ -17,7 +17,7 @@ use lib.Seq.{getD-set-other}
 use Rattle.circulation.proofs.laws.Flows.{flow-set}
 use Rattle.circulation.specs.laws.Picks.{pick-yes, pick-no}
 use Rattle.network.specs.Packed.{high-none}
-use Rattle.circulation.specs.Nodes.{deficit-zero}
+use Rattle.network.specs.Nodes.{deficit-zero}
 use Rattle.circulation.proofs.laws.Amounts.{amount-most}
 use Rattle.circulation.specs.laws.FlowsBounded.{x-top}
 
@@ -70,7 +70,13 @@ module _ {N : Net} {s t d : ℕ} {p x₀ e order parent residual : List ℕ} whe
 
   -- the walk has come to s
   pub walked : {x : List ℕ} {v : ℕ} → Walking N s t d p x₀ e order parent residual x v → v ≡ s → Walked N s t d p e x₀ x
-  walked {x} {v} w same = record { size-same = w .x-size; slack = w .slack; steps = w .steps; moved = λ y y-in. omega (arith, w .moved y y-in, ap (λ (u : ℕ). pick u y d) same) }
+  walked {x} {v} w same = record {
+    size-same = w .x-size;
+    slack = w .slack;
+    steps = w .steps;
+    moved = λ y y-in. omega
+        (arith, w .moved y y-in, ap (λ (u : ℕ). pick u y d) same);
+  }
 
   module _ {x : List ℕ} {v : ℕ} (w : Walking N s t d p x₀ e order parent residual x v) (on : v ≡ s → ⊥) where
     -- the network is one
@@ -101,7 +107,8 @@ module _ {N : Net} {s t d : ℕ} {p x₀ e order parent residual : List ℕ} whe
           (λ c. absurd (omega (arith, c .2, ap (at order) is))) (link .ends);
       down =
           λ ne. ⊎-elim (λ c. absurd (ne (c .0)))
-          (λ c. (omega (arith, c .3, x-same, w .v-residual), x-top (w .reached .state .limited) (w .slack) (at parent v) (link .arc-in))) (link .ends);
+          (λ c. (omega (arith, c .3, x-same, w .v-residual), x-top (w .reached .state .limited) (w .slack) (at parent v) (link .arc-in)))
+          (link .ends);
     }
       where
         high-top : high N (at parent v) ≤ high-none
@@ -111,13 +118,17 @@ module _ {N : Net} {s t d : ℕ} {p x₀ e order parent residual : List ℕ} whe
         ]
 
     -- d moved from u to v over arc i, whose flow becomes a
-    module _ (u a : ℕ) (u-in : u < length p) (u-reached : 0 < at order u) (u-low : at order u < at order v) (u-residual : at residual v ≤ at residual u)
-        (a-steps : (a ≤ at x₀ (at parent v) + d) × (at x₀ (at parent v) ≤ a + d)) (a-fits : (low N (at parent v) ≤ a) × (a ≤ high N (at parent v)))
-        (balanced : (y : ℕ) → y < length p → at e y + inflow N (arcs N) (at (set x (at parent v) a)) y + pick t y d ≡ deficit-zero + outflow N (arcs N) (at (set x (at parent v) a)) y + pick u y d) where
+    module _ (u a : ℕ) (u-in : u < length p) (u-reached : 0 < at order u) (u-low : at order u < at order v)
+        (u-residual : at residual v ≤ at residual u)
+        (a-steps : (a ≤ at x₀ (at parent v) + d) × (at x₀ (at parent v) ≤ a + d))
+        (a-fits : (low N (at parent v) ≤ a) × (a ≤ high N (at parent v)))
+        (balanced : (y : ℕ) → y < length p → at e y + inflow N (arcs N) (at (set x (at parent v) a)) y + pick t y d
+        ≡ deficit-zero + outflow N (arcs N) (at (set x (at parent v) a)) y + pick u y d) where
       -- arc i is no other node's
       not-i : (y : ℕ) → y < length p → 0 < at order y → (y ≡ s → ⊥) → at order y ≤ at order u → at parent y ≡ at parent v → ⊥
       not-i y y-in l ne low same =
-          let top = subst (λ (k : ℕ). (at order (tail N k) ≤ at order y) × (at order (head N k) ≤ at order y)) same (link-top (w .reached .tree .links y y-in l ne)) in
+          let top = subst (λ (k : ℕ). (at order (tail N k) ≤ at order y) × (at order (head N k) ≤ at order y)) same
+          (link-top (w .reached .tree .links y y-in l ne)) in
           ⊎-elim (λ c. omega (arith, ap (at order) (c .0), top .0)) (λ c. omega (arith, ap (at order) (c .0), top .1)) (link .ends)
 
       -- the flow of each arc then
@@ -162,7 +173,8 @@ module _ {N : Net} {s t d : ℕ} {p x₀ e order parent residual : List ℕ} whe
             λ j. ⊎-elim
             (λ c. (omega (arith, c .1, ap (at x₀) (c .0), a-steps .0), omega (arith, c .1, ap (at x₀) (c .0), a-steps .1)))
             (λ c. (omega (arith, c .1, w .steps j .0), omega (arith, c .1, w .steps j .1))) (stored j);
-        fresh = λ y y-in l ne low. getD-set-other x (at parent v) (at parent y) a 0 (not-i y y-in l ne low) ∙ w .fresh y y-in l ne (omega arith);
+        fresh = λ y y-in l ne low. getD-set-other x (at parent v) (at parent y) a 0 (not-i y y-in l ne low)
+            ∙ w .fresh y y-in l ne (omega arith);
         v-in = u-in;
         v-reached = u-reached;
         v-residual = omega (arith, w .v-residual);
@@ -172,11 +184,13 @@ module _ {N : Net} {s t d : ℕ} {p x₀ e order parent residual : List ℕ} whe
     -- the flows at y when arc i's flow becomes a
     module _ (a y : ℕ) where
       -- what flows out
-      tails : flow (arcs N) (tail N) (at (set x (at parent v) a)) y + pick (tail N (at parent v)) y (at x (at parent v)) ≡ flow (arcs N) (tail N) (at x) y + pick (tail N (at parent v)) y a
+      tails : flow (arcs N) (tail N) (at (set x (at parent v) a)) y + pick (tail N (at parent v)) y (at x (at parent v))
+          ≡ flow (arcs N) (tail N) (at x) y + pick (tail N (at parent v)) y a
       tails = flow-set (arcs N) (tail N) x (at parent v) a y (link .arc-in) x-in
 
       -- what flows in
-      heads : flow (arcs N) (head N) (at (set x (at parent v) a)) y + pick (head N (at parent v)) y (at x (at parent v)) ≡ flow (arcs N) (head N) (at x) y + pick (head N (at parent v)) y a
+      heads : flow (arcs N) (head N) (at (set x (at parent v) a)) y + pick (head N (at parent v)) y (at x (at parent v))
+          ≡ flow (arcs N) (head N) (at x) y + pick (head N (at parent v)) y a
       heads = flow-set (arcs N) (head N) x (at parent v) a y (link .arc-in) x-in
 
     -- the walk goes on over it
@@ -194,7 +208,8 @@ module _ {N : Net} {s t d : ℕ} {p x₀ e order parent residual : List ℕ} whe
             let low = lower (head N (at parent v)) is (c .2) in
             let u-in : u < length p = rw is (wf .arc-in (at parent v) (link .arc-in) .head-in) in (
               rw (m .up (c .0) .1)
-                  (next u (at x (at parent v) + d) u-in (rw is (c .1)) low (rw is (c .4)) (omega (arith, x-same), omega (arith, x-same)) (omega (arith, w .slack .within (at parent v) (link .arc-in) .0), omega (arith, x-same, w .v-residual, c .3))
+                  (next u (at x (at parent v) + d) u-in (rw is (c .1)) low (rw is (c .4)) (omega (arith, x-same), omega (arith, x-same))
+                  (omega (arith, w .slack .within (at parent v) (link .arc-in) .0), omega (arith, x-same, w .v-residual, c .3))
                   (λ y y-in. omega (
                     arith,
                     w .moved y y-in,
@@ -217,7 +232,8 @@ module _ {N : Net} {s t d : ℕ} {p x₀ e order parent residual : List ℕ} whe
             let rest : at x (at parent v) - d + d ≡ at x (at parent v) = omega (arith, x-same, w .v-residual, c .3) in
             let u-in : u < length p = rw is (wf .arc-in (at parent v) (link .arc-in) .tail-in) in (
               rw (m .down ne .1)
-                  (next u (at x (at parent v) - d) u-in (rw is (c .1)) low (rw is (c .4)) (omega (arith, x-same), omega (arith, x-same)) (omega (arith, x-same, w .v-residual, c .3), omega (arith, w .slack .within (at parent v) (link .arc-in) .1))
+                  (next u (at x (at parent v) - d) u-in (rw is (c .1)) low (rw is (c .4)) (omega (arith, x-same), omega (arith, x-same))
+                  (omega (arith, x-same, w .v-residual, c .3), omega (arith, w .slack .within (at parent v) (link .arc-in) .1))
                   (λ y y-in. omega (
                     arith,
                     w .moved y y-in,

@@ -1,7 +1,7 @@
 -- `circulation::run` meets its contract: the loop's invariant is `StateAt`; the total deficit falls.
 use Rattle.circulation.specs.inside.Steps.{Ends}
 use Rattle.circulation.specs.inside.Search.{State, total-deficit}
-use Rattle.circulation.specs.Nodes.{size, column, potentials, node-stride}
+use Rattle.network.specs.Nodes.{size, column, potentials, node-stride}
 use Rattle.network.specs.Net.{net, at}
 use Rattle.circulation.specs.inside.Slackness.{Balanced}
 use Rattle.circulation.proofs.laws.Searches.{solved}
@@ -74,7 +74,8 @@ same-length-2 c =
 
 returns : tie.Need-returns Inv-loop μ-loop
 returns c =
-    let start = c .before .before .before .before .before .before .before .before .before .before .before .before .before .before .before .before .before .before in
+    let start = c .before .before .before .before .before .before .before .before .before .before .before .before .before .before .before
+    .before .before .before in
     let saturate = c .before .before .before .before .before .before .before .before .before .before .before .before .saturate in
     let count-deficits = c .before .before .before .before .before .before .before .count-deficits in
     let loop = c .before .before .before .before .loop in
@@ -103,8 +104,10 @@ augment-requires c κs = c .before .before .before .before .search .ensures .rea
 
 loop-less : tie.Need-loop-less Inv-loop μ-loop
 loop-less c =
-    let count-deficits = c .before .before .before .before .before .before .before .before .before .before .before .before .before .before .before .before .before .before .before .before .count-deficits in
-    let loop = c .before .before .before .before .before .before .before .before .before .before .before .before .before .before .before .before .before .loop in
+    let count-deficits = c .before .before .before .before .before .before .before .before .before .before .before .before .before .before
+    .before .before .before .before .before .before .count-deficits in
+    let loop = c .before .before .before .before .before .before .before .before .before .before .before .before .before .before .before
+    .before .before .loop in
     let search = c .before .before .before .before .before .before .before .before .before .search in
     let augment = c .before .before .before .before .augment in
     omega (
@@ -119,8 +122,10 @@ loop-less c =
 
 loop-again : tie.Need-loop-again Inv-loop μ-loop
 loop-again c =
-    let start = c .before .before .before .before .before .before .before .before .before .before .before .before .before .before .before .before .before .before .before .before .before .before .before .before .before .before .before .before .before .before .before in
-    let loop = c .before .before .before .before .before .before .before .before .before .before .before .before .before .before .before .before .before .loop in
+    let start = c .before .before .before .before .before .before .before .before .before .before .before .before .before .before .before
+    .before .before .before .before .before .before .before .before .before .before .before .before .before .before .before .before in
+    let loop = c .before .before .before .before .before .before .before .before .before .before .before .before .before .before .before
+    .before .before .loop in
     let search = c .before .before .before .before .before .before .before .before .before .search in
     let augment = c .before .before .before .before .augment in (
       subst

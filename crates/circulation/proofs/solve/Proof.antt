@@ -1,5 +1,5 @@
 -- `circulation::solve` meets its contract: the whole nodes are lent, and put back before what stands behind them.
-use Rattle.circulation.specs.Nodes.{node-stride}
+use Rattle.network.specs.Nodes.{node-stride}
 use Rattle.network.specs.laws.TestedAnswers.{tested-yes, tested-no}
 use Rattle.circulation.proofs.laws.Parts.{valid-front, whole-back}
 use borrow.Author.Tests.{not-true, not-false}

@@ -1,6 +1,6 @@
 -- `circulation::whole` meets its contract: the flows balance, the last search makes the potentials leftmost, and no node
 -- is far left of ground.
-use Rattle.circulation.specs.Nodes.{size, node-stride}
+use Rattle.network.specs.Nodes.{size, node-stride}
 use Rattle.network.specs.Net.{net}
 use Rattle.circulation.proofs.laws.Leftmost.{flooded-solution}
 use Rattle.circulation.proofs.laws.Finishes.{flooded-grounded}
@@ -43,7 +43,8 @@ same-length-2 c = search needs
 returns : tie.Need-returns
 returns c =
     let start =
-    c .before .before .before .before .before .before .before .before .before .before .before .before .before .before .before .before .before .before .before in
+    c .before .before .before .before .before .before .before .before .before .before .before .before .before .before .before .before
+    .before .before .before in
     let run =
     c .before .before .before .before .before .before .before .before .before .before .before .before .before .run in
     let flood = c .before .before .before .before .before .before .flood in

@@ -1,6 +1,6 @@
 -- What the last step takes and leaves in the nodes.
 use Rattle.network.specs.Net.{at}
-use Rattle.circulation.specs.Nodes.{column, potentials, size, potential-zero}
+use Rattle.network.specs.Nodes.{column, potentials, size, potential-zero}
 use Rattle.network.specs.Limits.{most-nodes}
 use Rattle.circulation.specs.inside.Slackness.{Small}
 use mathlib.Core.Path.{_≡_}

@@ -13,7 +13,7 @@ use Prim.Native.Nat.{ℕ, _+_, _-_, _*_, _≤_, _<_}
 use lib.Dec.{eqb}
 use lib.ListN.{length, set}
 use Rattle.network.specs.Packed.{stride, word-limit, high-none, kink-zero, flow-zero}
-use Rattle.circulation.specs.Nodes.{deficit-zero}
+use Rattle.network.specs.Nodes.{deficit-zero}
 use Rattle.network.specs.Limits.{most-arcs}
 use Rattle.circulation.specs.Limits.{rested-limit}
 
@@ -76,12 +76,14 @@ pub record Distance (from to less more r : ℕ) : Type 0 where
 -- arc i leads to v from its head, which is before v; v's residual is at most the head's and what the arc can take
 abbrev pub FromHead : Net → (x order residual : ℕ → ℕ) → (v i : ℕ) → Type 0
 FromHead N x order residual v i =
-    (tail N i ≡ v) × (0 < order (head N i)) × (order (head N i) < order v) × (x i + residual v ≤ high N i) × (residual v ≤ residual (head N i))
+    (tail N i ≡ v) × (0 < order (head N i)) × (order (head N i) < order v) × (x i + residual v ≤ high N i)
+    × (residual v ≤ residual (head N i))
 
 -- the same from its tail, and what the arc can give back
 abbrev pub FromTail : Net → (x order residual : ℕ → ℕ) → (v i : ℕ) → Type 0
 FromTail N x order residual v i =
-    (head N i ≡ v) × (0 < order (tail N i)) × (order (tail N i) < order v) × (low N i + residual v ≤ x i) × (residual v ≤ residual (tail N i))
+    (head N i ≡ v) × (0 < order (tail N i)) × (order (tail N i) < order v) × (low N i + residual v ≤ x i)
+    × (residual v ≤ residual (tail N i))
 
 -- node v was reached over the arc i, which is on its kink
 pub record Link (N : Net) (p x order residual : ℕ → ℕ) (v i : ℕ) : Type 0 where

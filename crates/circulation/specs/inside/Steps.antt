@@ -2,7 +2,7 @@
 use Rattle.network.specs.Net.{at, Net}
 use Rattle.circulation.specs.Input.{HangsBy}
 use Rattle.circulation.specs.inside.Slackness.{Balanced}
-use Rattle.circulation.specs.Nodes.{size, potentials, deficits, orders, parents, residuals, deficit-zero}
+use Rattle.network.specs.Nodes.{size, potentials, deficits, orders, parents, residuals, deficit-zero}
 use Rattle.circulation.specs.inside.Search.{Crosses, Crossing, step, Grown, Reached, State, total-deficit}
 use Rattle.circulation.specs.declared.Found.{Found}
 use mathlib.Core.Path.{_≡_}

@@ -1,6 +1,6 @@
 -- What a store changes in the packed nodes, and what it leaves.
 use Rattle.network.specs.Net.{at}
-use Rattle.circulation.specs.Nodes.{node-stride, column, potentials, deficits, orders, parents, residuals}
+use Rattle.network.specs.Nodes.{node-stride, column, potentials, deficits, orders, parents, residuals}
 use mathlib.Core.Path.{_≡_}
 use mathlib.Core.List.{List}
 use Prim.Native.Nat.{ℕ, _<_}

@@ -1,7 +1,7 @@
 -- The numbers of the nodes as columns: how long, and the number of each node.
 use Rattle.network.specs.Net.{at}
 use Rattle.network.specs.laws.Indexed.{upto-length, upto-in}
-use Rattle.circulation.specs.Nodes.{column, node-stride}
+use Rattle.network.specs.Nodes.{column, node-stride}
 use mathlib.Core.Path.{_≡_}
 use mathlib.Core.List.{List}
 use Prim.Native.Nat.{ℕ, _+_, _*_, _/_, _≤_, _<_}

@@ -5,7 +5,7 @@ use Rattle.network.specs.laws.Indexed.{upto-in}
 use Rattle.network.specs.Integers.{down, up}
 use Rattle.network.specs.laws.IntegerParts.{less-parts}
 use Rattle.network.specs.laws.Unique.{leftmost-unique}
-use Rattle.circulation.specs.Nodes.{potentials, size, node-stride, potential-zero}
+use Rattle.network.specs.Nodes.{potentials, size, node-stride, potential-zero}
 use Rattle.circulation.specs.Solutions.{potentials-of, Solution, Cleared, Finding, Means}
 use Rattle.circulation.specs.Solutions.Finding.{solved, malformed}
 use Rattle.circulation.specs.laws.Columns.{column-at}

@@ -3,7 +3,7 @@
 use Rattle.network.specs.laws.Tests.{fails, Listed}
 use Rattle.network.specs.Net.{at, Net, arcs, tail, head, low, high, asks, stands, meant}
 use Rattle.network.specs.laws.Indexed.{upto-length, upto-ext, listed-upto}
-use Rattle.circulation.specs.Nodes.{potentials, orders, size, potential-zero}
+use Rattle.network.specs.Nodes.{potentials, orders, size, potential-zero}
 use Rattle.network.specs.laws.IntegerParts.{parts-eq, less-parts}
 use Rattle.network.specs.Integers.{down, up, eqZ}
 use Rattle.network.specs.laws.Integers.{eqZ→eq}

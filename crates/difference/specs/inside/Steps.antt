@@ -14,7 +14,8 @@ use Rattle.difference.specs.Limits.{value-limit}
 abbrev pub RelaxMeans : (asked : Bool) (from to a b : ℕ) (v₀ v : List ℕ) → Found → Type 0
 RelaxMeans asked from to a b v₀ v Same = (v ≡ v₀) × (asked ≡ true → at v₀ from + a ≤ at v₀ to + b)
 RelaxMeans asked from to a b v₀ v Changed =
-    (asked ≡ true) × (v ≡ set v₀ to (at v₀ from + a - b)) × (at v₀ to + b < at v₀ from + a) × (to + 1 < length v₀) × (at v₀ from + a ≤ value-limit + b)
+    (asked ≡ true) × (v ≡ set v₀ to (at v₀ from + a - b)) × (at v₀ to + b < at v₀ from + a) × (to + 1 < length v₀)
+    × (at v₀ from + a ≤ value-limit + b)
 RelaxMeans asked from to a b v₀ v Stuck =
     (asked ≡ true) × (v ≡ v₀) × (at v₀ to + b < at v₀ from + a) × (to + 1 < length v₀ → value-limit + b < at v₀ from + a)
 

@@ -16,7 +16,7 @@ use Rattle.drawing.specs.Sheet.{Edge, Sheet, first-nodes, edges-of, shee
 use Rattle.drawing.specs.Traces.{any-parallel, greatest-parallel, whole-trace, bare, traces-behind, traces}
 use Rattle.drawing.specs.Drawing.{edge-length, weighted-length, total-length}
 use Rattle.drawing.specs.laws.Traces.{greatest-le}
-use Rattle.drawing.specs.Carriers.{At, SameEnds, NoneOf, Greatest, Carried, Apart}
+use Rattle.drawing.specs.Carriers.{At, NoneOf, Greatest, Carried, Apart}
 use Rattle.drawing.specs.laws.Carriers.{ends-back, ends-own, at-one, itself, carried-unique}
 use Rattle.drawing.specs.Carriers.At.{here, later}
 use Rattle.drawing.specs.laws.CarriedTraces.{none-parallel, parallel-none, traces-are}

@@ -1,5 +1,5 @@
 -- Edges with the same ends have one first among them, so one list only is what edges carry.
-use Prim.Native.Nat.{ℕ, zero, suc, _≤_, _<_}
+use Prim.Native.Nat.{ℕ, zero, suc, _<_}
 use mathlib.Core.Path.{_≡_, refl, sym, _∙_, ap₂}
 use mathlib.Core.Bool.{Bool}
 use mathlib.Core.List.{List, [], _∷_}
@@ -10,18 +10,14 @@ use lib.ListN.{length}
 use Rattle.network.specs.Sums.{all}
 use Rattle.network.specs.laws.Tests.{and-both, Listed, listed-here, listed-later}
 use Rattle.drawing.specs.Sheet.{Edge}
-use Rattle.drawing.specs.Carriers.{At, SameEnds, FirstOf, Among, Greatest, Carries, Carried, AllCarried}
+use Rattle.drawing.specs.Carriers.{At, SameEnds, FirstOf, Among, Greatest, Carries, Carried, AllCarried, Straight}
 use Rattle.drawing.specs.Carriers.At.{here, later}
 
--- an edge is straight: its kind is not 0
-abbrev pub Straight : Edge → Type 0
-Straight e = e .kind ≡ 0 → ⊥
-
--- what carries a trace is straight where an edge with these ends is
+-- what carries a trace is straight if an edge with these ends is (document 02, ticket 4)
 pub carries-straight : {es : List Edge} {e t : Edge} → Carries es e t → Among es e (λ j x. Straight x) → Straight t
 carries-straight c a z = a .holds (omega (arith, c .kind .most (a .index) (a .edge) (a .at) (a .ends)))
 
--- and only there
+-- and only then
 pub straight-carried : {es : List Edge} {e t : Edge} → Carries es e t → Straight t → Among es e (λ j x. Straight x)
 straight-carried c s =
     let a = c .kind .attained in

@@ -15,7 +15,7 @@ use Rattle.network.specs.Packed.{stride}
 use Rattle.network.specs.Net.{at, net, meant}
 use Rattle.drawing.specs.Sheet.{Sheet, sheet-of}
 use Rattle.drawing.specs.Drawing.{total-length}
-use Rattle.circulation.specs.Nodes.{node-stride, potentials}
+use Rattle.network.specs.Nodes.{node-stride, potentials}
 use Rattle.circulation.specs.Solutions.{Solution}
 use Rattle.leftmost.specs.Solutions.{Taken, SomeFeasible, finding, Means}
 use Rattle.leftmost.specs.declared.Answer.the-variants.{Solved, NoSolution, Malformed}

@@ -27,7 +27,7 @@ use Rattle.drawing.specs.Arcs.{network}
 use Rattle.drawing.specs.laws.Hanging.{solution-drawing}
 use Rattle.drawing.specs.laws.SameDrawings.{inside-at, same-total, leftmost-drawing}
 use Rattle.drawing.specs.laws.SameRules.{same-rules, same-bound}
-use Rattle.circulation.specs.Nodes.{node-stride, potential-zero, potentials}
+use Rattle.network.specs.Nodes.{node-stride, potential-zero, potentials}
 use Rattle.circulation.specs.Solutions.{flows-of, potentials-of}
 use Rattle.circulation.specs.laws.Columns.{column-at}
 use Rattle.leb128.specs.Words.{u32-most}

@@ -6,7 +6,7 @@ use lib.ListN.{length}
 use Rattle.leb128.specs.Limits.{list-limit}
 use Rattle.network.specs.Packed.{flow-zero, high-none}
 use Rattle.network.specs.Net.{at}
-use Rattle.circulation.specs.Nodes.{node-stride, potential-zero}
+use Rattle.network.specs.Nodes.{node-stride, potential-zero}
 
 -- the coordinate of node v, from the packed nodes
 abbrev pub place-at : List ℕ → ℕ → ℕ

@@ -7,7 +7,7 @@ use lib.ListN.{take}
 use Rattle.leb128.specs.Reply.{Reply}
 use Rattle.leb128.specs.Source.{refusal}
 use Rattle.network.specs.Net.{at, net, meant}
-use Rattle.circulation.specs.Nodes.{node-stride, potentials}
+use Rattle.network.specs.Nodes.{node-stride, potentials}
 use Rattle.circulation.specs.Solutions.{Solution}
 use Rattle.leftmost.specs.Solutions.{SomeFeasible}
 use Rattle.drawing.specs.Sheet.{Sheet, sheet-of}

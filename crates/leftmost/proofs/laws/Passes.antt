@@ -7,7 +7,7 @@ use mathlib.Core.List.{List}
 use native.Mathlib.Omega.{arith}
 use Rattle.network.specs.Net.{at, Net, arcs}
 use Rattle.network.specs.WellFormed.{WellFormed}
-use Rattle.circulation.specs.Nodes.{node-stride, deficit-zero, size, potentials, deficits, orders}
+use Rattle.network.specs.Nodes.{node-stride, deficit-zero, size, potentials, deficits, orders}
 use Rattle.circulation.specs.Input.{First, Limited}
 use Rattle.circulation.specs.inside.Slackness.{Slack, Balanced, inflow, outflow}
 use Rattle.circulation.specs.inside.Stores.{Apart}

@@ -9,7 +9,7 @@ use native.Mathlib.Omega.{arith}
 use lib.ListN.{length, set, length-set}
 use lib.Seq.{getD-set-same, getD-set-other}
 use Rattle.network.specs.Net.{at}
-use Rattle.circulation.specs.Nodes.{node-stride, potentials, size}
+use Rattle.network.specs.Nodes.{node-stride, potentials, size}
 use Rattle.circulation.specs.laws.Columns.{column-at, column-past}
 use Rattle.leftmost.specs.inside.Potentials.{potentials-to}
 

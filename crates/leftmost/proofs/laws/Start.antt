@@ -10,7 +10,7 @@ use Rattle.network.specs.Net.{at, Net, meant}
 use Rattle.difference.specs.Solutions.{RestKept, Solves, finding as difference-finding, Means as DifferenceMeans}
 use Rattle.difference.specs.declared.Answer as difference
 use Rattle.difference.specs.declared.Answer.the-variants as found
-use Rattle.circulation.specs.Nodes.{node-stride, potentials, size}
+use Rattle.network.specs.Nodes.{node-stride, potentials, size}
 use Rattle.circulation.specs.Input.{ArcsTaken, First, Valid}
 use Rattle.circulation.specs.Solutions.{Solution, Cleared as NodesCleared, finding as flow-finding, Means as CirculationMeans}
 use Rattle.circulation.specs.laws.Feasible.{feasible-stored}
@@ -20,7 +20,8 @@ use Rattle.leftmost.specs.Solutions.{Taken, SomeFeasible, Finding, Means
 use Rattle.leftmost.specs.inside.Potentials.{potentials-to}
 use Rattle.leftmost.proofs.laws.Potentials.{ready, size-same, potential-is, potential-behind, potentials-length, behind-same}
 
-module _ {N : Net} (values nodes : List ℕ) (arcs-in : ArcsTaken N (size nodes)) (g : Solves N (size nodes) values) (enough : size nodes ≤ length values) where
+module _ {N : Net} (values nodes : List ℕ) (arcs-in : ArcsTaken N (size nodes)) (g : Solves N (size nodes) values)
+    (enough : size nodes ≤ length values) where
   -- the values without ground's
   abbrev q : List ℕ
   q = take (size nodes - 1) values
@@ -63,7 +64,8 @@ cleared-before nodes₀ nodes₁ nodes size-is behind m = record {
   rest = λ i past. m .rest i (omega arith) ∙ behind i past;
 }
 
-module _ {N : Net} (x₀ nodes₀ room₀ x nodes room : List ℕ) (taken : Taken N (size nodes₀) (length room₀)) (zeros : room ≡ replicate (length room₀) 0) where
+module _ {N : Net} (x₀ nodes₀ room₀ x nodes room : List ℕ) (taken : Taken N (size nodes₀) (length room₀))
+    (zeros : room ≡ replicate (length room₀) 0) where
   -- what the solver of flows leaves from there is the answer: it is never malformed
   left-from : (values : List ℕ) (r : circulation.Answer) → RestKept (size nodes₀) room₀ values → Solves N (size nodes₀) values
       → CirculationMeans N x₀ (ready values nodes₀) x nodes (flow-finding r)
@@ -104,7 +106,8 @@ feasible-start {N} nodes₀ room₀ values started arcs-in enough kept g same = 
 )
 
 -- a solution from slices that were worked in is one from the slices before: they are as long, and the same behind the last node
-pub solved-before : {N : Net} (x₀ nodes₀ room₀ x₁ nodes₁ room₁ x nodes room : List ℕ) → length x₁ ≡ length x₀ → length nodes₁ ≡ length nodes₀
+pub solved-before : {N : Net} (x₀ nodes₀ room₀ x₁ nodes₁ room₁ x nodes room : List ℕ) → length x₁ ≡ length x₀
+    → length nodes₁ ≡ length nodes₀
     → ((i : ℕ) → node-stride * size nodes₀ ≤ i → at nodes₁ i ≡ at nodes₀ i) → length room₁ ≡ length room₀
     → Means N x₁ nodes₁ room₁ x nodes room Finding.solved → Means N x₀ nodes₀ room₀ x nodes room Finding.solved
 solved-before {N} x₀ nodes₀ room₀ x₁ nodes₁ room₁ x nodes room x-size nodes-size behind room-size m = (

@@ -1,7 +1,7 @@
 -- `leftmost::solve` meets its contract: by what the solver of differences finds; where it finds potentials, a guess or the circulation.
 use Rattle.leftmost.proofs.laws.Start.{feasible-start, solved-before}
 use Rattle.leftmost.proofs.laws.Potentials.{behind-same}
-use Rattle.circulation.specs.Nodes.{size}
+use Rattle.network.specs.Nodes.{size}
 use Rattle.network.specs.laws.TestedAnswers.{tested-yes, tested-no}
 use Rattle.network.specs.Net.{at}
 use borrow.Author.Tests.{not-true, not-false}
@@ -50,8 +50,10 @@ set-potentials-requires c κs =
 
 solve-feasible-requires : tie.Need-solve-feasible-requires
 solve-feasible-requires c κs =
-    let start = c .before .before .before .before .before .before .before .before .before .before .before .before .before .before .before .before .before .before .before .before in
-    let takes = c .before .before .before .before .before .before .before .before .before .before .before .before .before .before .before .takes in
+    let start = c .before .before .before .before .before .before .before .before .before .before .before .before .before .before .before
+    .before .before .before .before .before in
+    let takes = c .before .before .before .before .before .before .before .before .before .before .before .before .before .before .before
+    .takes in
     let if1 = c .before .before .before .before .before .before .before .before .before .before .before .before .before .before .if1 in
     let least = c .before .before .before .before .before .before .before .before .before .before .before .before .least in
     let enum-told3 = c .before .before .before .before .before .before .before .before .enum-told3 in
@@ -102,8 +104,10 @@ same-length-5 c = search needs
 
 returns-4 : tie.Need-returns-4
 returns-4 c =
-    let start = c .before .before .before .before .before .before .before .before .before .before .before .before .before .before .before .before .before .before .before .before .before .before .before .before .before .before .before in
-    let least = c .before .before .before .before .before .before .before .before .before .before .before .before .before .before .before .before .before .before .before .least in
+    let start = c .before .before .before .before .before .before .before .before .before .before .before .before .before .before .before
+    .before .before .before .before .before .before .before .before .before .before .before .before in
+    let least = c .before .before .before .before .before .before .before .before .before .before .before .before .before .before .before
+    .before .before .before .before .least in
     let set = c .before .before .before .before .before .before .before .before .before .before .before .before .set-potentials in
     let solve = c .before .before .before .before .before .before .solve-feasible in
     let nodes : List ℕ = start .args .nodes .now in

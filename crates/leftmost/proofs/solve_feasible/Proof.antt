@@ -4,7 +4,7 @@ use Rattle.leftmost.proofs.laws.Shown.{shown-yes}
 use Rattle.leftmost.specs.Solutions.{Finding, Means}
 use Rattle.circulation.proofs.laws.Parts.{front-size, back-length, behind-kept, whole-back}
 use Rattle.circulation.specs.Input.{ArcsTaken}
-use Rattle.circulation.specs.Nodes.{node-stride, size}
+use Rattle.network.specs.Nodes.{node-stride, size}
 use Rattle.network.specs.Net.{net}
 use borrow.Rule.Slice.PartMut.{postOf}
 use lib.ListN.{length, replicate}
@@ -62,7 +62,8 @@ returns c =
 
 circulate-requires : tie.Need-circulate-requires
 circulate-requires c κs =
-    let start = c .before .before .before .before .before .before .before .before .before .before .before .before .before .before .before .before .before .before in
+    let start = c .before .before .before .before .before .before .before .before .before .before .before .before .before .before .before
+    .before .before .before in
     let attempt = c .before .before .before .before .before .before .before .before .before .before .attempt in
     let old : List ℕ = start .args .nodes .now in
     let end : ℕ = node-stride * size old in
@@ -80,8 +81,10 @@ same-length-6 c = search needs
 
 returns-2 : tie.Need-returns-2
 returns-2 c =
-    let start = c .before .before .before .before .before .before .before .before .before .before .before .before .before .before .before .before .before .before .before .before .before .before .before .before .before in
-    let attempt = c .before .before .before .before .before .before .before .before .before .before .before .before .before .before .before .before .before .attempt in
+    let start = c .before .before .before .before .before .before .before .before .before .before .before .before .before .before .before
+    .before .before .before .before .before .before .before .before .before .before in
+    let attempt = c .before .before .before .before .before .before .before .before .before .before .before .before .before .before
+    .before .before .before .attempt in
     let circulate = c .before .before .before .before .before .before .circulate in
     let old : List ℕ = start .args .nodes .now in
     let end : ℕ = node-stride * size old in

@@ -4,7 +4,7 @@ use mathlib.Core.Path.{_≡_}
 use lib.ListN.{length, replicate}
 use mathlib.Core.List.{List}
 use Rattle.network.specs.Net.{at, Net, arcs, low, high, stands, asks}
-use Rattle.circulation.specs.Nodes.{node-stride, deficit-zero, size, potentials, deficits, orders}
+use Rattle.network.specs.Nodes.{node-stride, deficit-zero, size, potentials, deficits, orders}
 use Rattle.circulation.specs.Limits.{flow-least, flow-most}
 use Rattle.circulation.specs.Input.{First}
 use Rattle.circulation.specs.Solutions.{Solution}

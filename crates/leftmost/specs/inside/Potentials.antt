@@ -3,7 +3,7 @@ use Prim.Native.Nat.{ℕ, zero, suc, _*_}
 use mathlib.Core.List.{List}
 use lib.ListN.{set}
 use Rattle.network.specs.Net.{at}
-use Rattle.circulation.specs.Nodes.{node-stride}
+use Rattle.network.specs.Nodes.{node-stride}
 
 -- the nodes with the first n values as potentials
 unfoldable pub potentials-to : ℕ → List ℕ → List ℕ → List ℕ

@@ -88,7 +88,7 @@ module _ (N : Network) (y p : List ℤ) (rule : T (rules N y)) (size : length p 
       stays true n x z e l = n
       stays false n x z e l = omega (arith, ap up e, ap down e, le-parts l, less-one x)
 
-  -- in the leftmost least potentials every node is held
+  -- in the leftmost least potentials every node is held: the other half of `held-leftmost`, for readers, since no law rests on it
   pub leftmost-held : LeftmostLeast N p → (v : ℕ) → Held p (residuals N y) v
   leftmost-held given v = held-reached p (residuals N y) .sound v (leftmost-reached given v)
 

@@ -74,13 +74,6 @@ flows-upto f y (suc n) =
     next i = ap (λ (x : ℤ). record { on = f (suc i); amount = x })
         (getD-drop 1 y i (pos 0) ∙ ap (λ (k : ℕ). getD y k (pos 0)) (omega arith))
 
--- a list that ends with what stands past it, as potentials with ground's 0 behind them
-pub at-ground : {A : Type 0} (d : A) (p : List A) (v : ℕ) → getD (p ++ (d ∷ [])) v d ≡ getD p v d
-at-ground d [] zero = refl
-at-ground d [] (suc v) = refl
-at-ground d (x ∷ p) zero = refl
-at-ground d (x ∷ p) (suc v) = at-ground d p v
-
 module _ {A : Type 0} (t : A → Bool) where
   -- a test that each element by index passes
   pub all-upto : (n : ℕ) (f : ℕ → A) → ((i : ℕ) → i < n → T (t (f i))) → T (all t (upto n f))

@@ -78,11 +78,6 @@ module _ {A : Type 0} where
   sum-append f [] ys = sym (+ℤ-idl (sum f ys))
   sum-append f (x ∷ xs) ys = ap (λ (z : ℤ). f x +ℤ z) (sum-append f xs ys) ∙ sym (+ℤ-assoc (f x) (sum f xs) (sum f ys))
 
-  -- the same in natural numbers
-  pub sumℕ-append : (f : A → ℕ) (xs ys : List A) → sumℕ f (xs ++ ys) ≡ sumℕ f xs + sumℕ f ys
-  sumℕ-append f [] ys = omega arith
-  sumℕ-append f (x ∷ xs) ys = omega (arith, sumℕ-append f xs ys)
-
 module _ {A B : Type 0} where
   -- a sum over an image
   pub sum-image : (f : A → ℤ) (g : B → A) (xs : List B) → sum f (map g xs) ≡ sum (λ x. f (g x)) xs

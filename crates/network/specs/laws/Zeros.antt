@@ -4,7 +4,7 @@ use mathlib.Core.Path.{_≡_, sym, _∙_, ap}
 use mathlib.Core.List.{List}
 use native.Mathlib.Decide.{decLt}
 use native.Mathlib.Omega.{arith}
-use lib.ListN.{length, getD, replicate, length-replicate, getD-replicate, List·getD-eq-default}
+use lib.ListN.{length, replicate, length-replicate, getD-replicate, List·getD-eq-default}
 use lib.Seq.{ext-getD}
 use Rattle.network.specs.Net.{at}
 
@@ -22,4 +22,5 @@ zeros-at n e i = ap (λ (l : List ℕ). at l i) e ∙ zero-at n i
 
 -- a list whose numbers are all 0
 pub zeros-are : (v : List ℕ) → ((i : ℕ) → i < length v → at v i ≡ 0) → v ≡ replicate (length v) 0
-zeros-are v z = ext-getD 0 v (replicate (length v) 0) (sym (length-replicate (length v) 0)) (λ i l. z i l ∙ sym (getD-replicate (length v) i 0 0 l))
+zeros-are v z = ext-getD 0 v (replicate (length v) 0) (sym (length-replicate (length v) 0))
+    (λ i l. z i l ∙ sym (getD-replicate (length v) i 0 0 l))

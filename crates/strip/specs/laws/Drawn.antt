@@ -7,7 +7,7 @@ use lib.IntN.{ℤ}
 use Rattle.leb128.specs.Reply.{Reply}
 use Rattle.leb128.specs.Format.{Result}
 use Rattle.sheet.specs.Reading.{read-sheet}
-use Rattle.checker.specs.Verdict.{accepted, check-answer}
+use Rattle.checker.specs.Verdict.{check-answer}
 use Rattle.engine.specs.Draws.{Drawn, Draws}
 use Rattle.engine.specs.laws.Determined.{determined}
 use Rattle.engine.specs.laws.Refusals.{draw-refusals}

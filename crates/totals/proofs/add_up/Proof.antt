@@ -44,7 +44,8 @@ same-length-2 c = search needs
 
 returns-2 : tie.Need-returns-2
 returns-2 c =
-    let start = c .before .before .before .before .before .before .before .before .before .before .before .before .before .before .before .before .before .before .before in
+    let start = c .before .before .before .before .before .before .before .before .before .before .before .before .before .before .before
+    .before .before .before .before in
     let args = start .args in
     let starts = c .before .before .before .before .before .before .before .before .before .put-starts in
     let rising = c .before .before .before .before .before .before .before .before .before .before .before .before .rising in
@@ -76,11 +77,14 @@ same-length-5 c = search needs
 
 returns-3 : tie.Need-returns-3
 returns-3 c =
-    let start = c .before .before .before .before .before .before .before .before .before .before .before .before .before .before .before .before .before .before .before .before .before .before .before in
+    let start = c .before .before .before .before .before .before .before .before .before .before .before .before .before .before .before
+    .before .before .before .before .before .before .before .before in
     let args = start .args in
     let starts = c .before .before .before .before .before .before .before .before .before .before .before .before .before .put-starts in
-    let rising = c .before .before .before .before .before .before .before .before .before .before .before .before .before .before .before .before .rising in
-    let if1 = c .before .before .before .before .before .before .before .before .before .before .before .before .before .before .before .if1 in
+    let rising = c .before .before .before .before .before .before .before .before .before .before .before .before .before .before .before
+    .before .rising in
+    let if1 = c .before .before .before .before .before .before .before .before .before .before .before .before .before .before .before
+    .if1 in
     let chain = c .before .before .before .before .before .before .before .before .chain in
     let if2 = c .before .before .before .before .before .if2 in
     let layers = c .before .before .add-layers in (

@@ -1,7 +1,7 @@
 -- `circulation::augment::walk` meets its contract: the loop's invariant is `Walking`; the place in the order falls.
 use Rattle.circulation.specs.inside.Search.{Pushable, Pushed}
 use Rattle.network.specs.Net.{net, at}
-use Rattle.circulation.specs.Nodes.{column, potentials, orders, parents, residuals}
+use Rattle.network.specs.Nodes.{column, potentials, orders, parents, residuals}
 use Rattle.circulation.proofs.laws.Walks.{Walking, walk-start, walked, pushable, walk-next}
 use Rattle.circulation.specs.laws.Columns.{column-length}
 use lib.ListN.{length}

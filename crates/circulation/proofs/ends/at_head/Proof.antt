@@ -1,6 +1,6 @@
 -- `circulation::ends::at_head` meets its contract: the head of an arc is a node.
 use Rattle.network.specs.Net.{at}
-use Rattle.circulation.specs.Nodes.{column}
+use Rattle.network.specs.Nodes.{column}
 use mathlib.Core.Path.{ap, _∙_}
 use native.Mathlib.Omega.{arith}
 use borrow.Author.Needs.{needs}

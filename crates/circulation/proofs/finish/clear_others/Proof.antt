@@ -1,5 +1,5 @@
 -- `circulation::finish::clear_others` meets its contract: the numbers 1 .. k - 1 of every node are 0.
-use Rattle.circulation.specs.Nodes.{potentials, node-stride}
+use Rattle.network.specs.Nodes.{potentials, node-stride}
 use Rattle.circulation.specs.inside.Finish.{Zeroed}
 use Rattle.circulation.proofs.laws.Columns.{fill-zeros}
 use Rattle.circulation.proofs.laws.Finishes.{zeroed-start, zeroed-next}

@@ -1,6 +1,6 @@
 -- `circulation::finish::settle` meets its contract: the potentials before v are relative to ground's, those from v on as
 -- before.
-use Rattle.circulation.specs.Nodes.{potentials, size}
+use Rattle.network.specs.Nodes.{potentials, size}
 use Rattle.circulation.specs.inside.Finish.{ground-of}
 use Rattle.circulation.proofs.laws.Finishes.{Settling, settle-start, settle-next, settle-end}
 use Rattle.network.specs.Net.{at}

@@ -1,5 +1,5 @@
 -- `circulation::input::low_start` meets its contract: the potentials before v are small.
-use Rattle.circulation.specs.Nodes.{potentials}
+use Rattle.network.specs.Nodes.{potentials}
 use Rattle.network.specs.Net.{at}
 use Rattle.circulation.proofs.laws.Valids.{all-small}
 use borrow.Author.Count.{below-none, below-more}

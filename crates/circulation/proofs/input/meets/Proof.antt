@@ -1,5 +1,5 @@
 -- `circulation::input::meets` meets its contract: the arcs before i are on no forbidden side.
-use Rattle.circulation.specs.Nodes.{potentials}
+use Rattle.network.specs.Nodes.{potentials}
 use Rattle.network.specs.Net.{at, net}
 use native.Mathlib.Omega.{arith}
 use Prim.Native.Nat.{ℕ, _≤_, _<_, _-_}

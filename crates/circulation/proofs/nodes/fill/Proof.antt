@@ -7,7 +7,7 @@ use native.Mathlib.Omega.{arith}
 use borrow.Author.Needs.{needs}
 use Rattle.circulation.proofs.nodes.fill.Statement.{statement}
 use Rattle.circulation.proofs.nodes.fill.Tie as tie
-use Rattle.circulation.specs.Nodes.{node-stride}
+use Rattle.network.specs.Nodes.{node-stride}
 use Rattle.network.specs.Limits.{most-nodes}
 
 abbrev Inv-loop : tie.InvT-loop

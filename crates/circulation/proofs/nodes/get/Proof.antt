@@ -6,7 +6,7 @@ use native.Mathlib.Omega.{arith}
 use borrow.Author.Needs.{needs}
 use Rattle.circulation.proofs.nodes.get.Statement.{statement}
 use Rattle.circulation.proofs.nodes.get.Tie as tie
-use Rattle.circulation.specs.Nodes.{node-stride}
+use Rattle.network.specs.Nodes.{node-stride}
 
 mul-result : tie.Need-mul-result
 mul-result c = search needs

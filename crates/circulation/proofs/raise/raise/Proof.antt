@@ -1,6 +1,6 @@
 -- `circulation::raise::raise` meets its contract: by whether the node is reached.
 use Rattle.circulation.specs.inside.Search.{lift}
-use Rattle.circulation.specs.Nodes.{potentials, orders}
+use Rattle.network.specs.Nodes.{potentials, orders}
 use Rattle.circulation.specs.inside.Stores.{Stored}
 use Rattle.network.specs.Net.{at}
 use Rattle.circulation.proofs.laws.Columns.{stored-same}

@@ -7,7 +7,7 @@ use native.Mathlib.Omega.{arith}
 use borrow.Author.Needs.{needs}
 use Rattle.circulation.proofs.raise.raise_all.Statement.{statement}
 use Rattle.circulation.proofs.raise.raise_all.Tie as tie
-use Rattle.circulation.specs.Nodes.{node-stride}
+use Rattle.network.specs.Nodes.{node-stride}
 
 abbrev Inv-loop : tie.InvT-loop
 Inv-loop nodes₀ d n v₀ nodes v = Moving d nodes₀ nodes v × (n ≡ length nodes₀ / node-stride)

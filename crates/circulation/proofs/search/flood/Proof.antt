@@ -1,6 +1,6 @@
 -- `circulation::search::flood` meets its contract: the loop's invariant is `GrownAt`; the count of nodes left falls.
 use Rattle.circulation.specs.inside.Steps.{GrownAt}
-use Rattle.circulation.specs.Nodes.{size, potentials, orders, parents, residuals, node-stride}
+use Rattle.network.specs.Nodes.{size, potentials, orders, parents, residuals, node-stride}
 use Rattle.network.specs.Net.{net}
 use Rattle.circulation.specs.Input.{Rooted}
 use Rattle.circulation.proofs.laws.Floods.{flood-crosses, flood-whole}
@@ -96,7 +96,8 @@ get-requires c κs =
 
 add-count : tie.Need-add-count Inv-loop μ-loop
 add-count c =
-    let start = c .before .before .before .before .before .before .before .before .before .before .before .before .before .before .before .before .before in
+    let start = c .before .before .before .before .before .before .before .before .before .before .before .before .before .before .before
+    .before .before in
     let count-of = c .before .before .before .before .before .before .before .before .before .before .before .before .count-of in
     let loop-test = c .before .before .before .before .before .before .loop-test in
     omega

@@ -1,6 +1,6 @@
 -- `circulation::search::search` meets its contract: the loop's invariant is `Searching`; the count of nodes left falls.
 use Rattle.circulation.specs.inside.Search.{Reached}
-use Rattle.circulation.specs.Nodes.{column, potentials, orders, parents, residuals, node-stride}
+use Rattle.network.specs.Nodes.{column, potentials, orders, parents, residuals, node-stride}
 use Rattle.network.specs.Net.{net}
 use Rattle.circulation.proofs.laws.Searches.{Searching, search-start, search-next, search-found, search-crosses}
 use Rattle.circulation.proofs.laws.Growing.{crossing-residual}
@@ -90,7 +90,8 @@ same-length c =
 
 returns : tie.Need-returns Inv-loop μ-loop
 returns c =
-    let start = c .before .before .before .before .before .before .before .before .before .before .before .before .before .before .before .before .before in
+    let start = c .before .before .before .before .before .before .before .before .before .before .before .before .before .before .before
+    .before .before in
     let begin = c .before .before .before .before .before .before .before .before .before .before .begin in
     let loop = c .before .before .before .before .before .before .before .loop in
     let extend = c .before .before .before .before .before .extend in

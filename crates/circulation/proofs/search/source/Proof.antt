@@ -1,5 +1,5 @@
 -- `circulation::search::source` meets its contract: the nodes from v on have no deficit.
-use Rattle.circulation.specs.Nodes.{column, node-stride, deficit-zero}
+use Rattle.network.specs.Nodes.{column, node-stride, deficit-zero}
 use Rattle.network.specs.Net.{at}
 use lib.ListN.{length}
 use native.Mathlib.Decide.{ℕ-discrete}
@@ -49,8 +49,11 @@ loop-again c =
     let start = c .before .before .before .before .before .before in
     let loop = c .before .before .before .loop in (
       omega (arith, loop .inv .0),
-      λ k l m. elim (ℕ-discrete k (loop .v - 1))
-          [ yes e ↦ omega (arith, ap (at (column 1 (start .args .nodes .now))) e, c .before .get .ensures, c .if1 .left) | no ne ↦ loop .inv .1 k (omega (arith, c .before .before .loop-test .taken)) m ],
+      λ k l m. elim (ℕ-discrete k (loop .v - 1)) [
+        | yes e ↦ omega (arith, ap (at (column 1 (start .args .nodes .now))) e, c .before .get .ensures, c .if1 .left)
+        | no ne ↦ loop
+            .inv .1 k (omega (arith, c .before .before .loop-test .taken)) m
+      ],
     )
 
 returns-2 : tie.Need-returns-2 Inv-loop μ-loop

@@ -7,7 +7,7 @@ use native.Mathlib.Omega.{arith}
 use borrow.Author.Needs.{needs}
 use Rattle.circulation.proofs.start.charge.Statement.{statement}
 use Rattle.circulation.proofs.start.charge.Tie as tie
-use Rattle.circulation.specs.Nodes.{node-stride}
+use Rattle.network.specs.Nodes.{node-stride}
 use Rattle.network.specs.Packed.{word-limit}
 
 get-requires : tie.Need-get-requires

@@ -1,5 +1,5 @@
 -- `circulation::start::count_deficits` meets its contract: the loop's invariant is `Counting`.
-use Rattle.circulation.specs.Nodes.{column, node-stride}
+use Rattle.network.specs.Nodes.{column, node-stride}
 use Rattle.circulation.specs.inside.Stores.{Apart}
 use Rattle.network.specs.Net.{net}
 use Rattle.circulation.proofs.laws.Counts.{Counting, count-start, count-range, count-next, count-all}
@@ -78,7 +78,8 @@ charge-requires c κs =
 
 charge-requires-2 : tie.Need-charge-requires-2 Inv-loop μ-loop
 charge-requires-2 c κs =
-    let start = c .before .before .before .before .before .before .before .before .before .before .before .before .before .before .before .before .before in
+    let start = c .before .before .before .before .before .before .before .before .before .before .before .before .before .before .before
+    .before .before in
     let fill = c .before .before .before .before .before .before .before .before .before .before .before .before .fill in
     let loop = c .before .before .before .before .before .before .before .before .before .loop in
     let loop-test = c .before .before .before .before .before .before .before .before .loop-test in
@@ -129,7 +130,8 @@ loop-less c =
 
 loop-again : tie.Need-loop-again Inv-loop μ-loop
 loop-again c =
-    let start = c .before .before .before .before .before .before .before .before .before .before .before .before .before .before .before .before .before .before .before .before in
+    let start = c .before .before .before .before .before .before .before .before .before .before .before .before .before .before .before
+    .before .before .before .before .before in
     let loop = c .before .before .before .before .before .before .before .before .before .before .before .before .loop in
     let loop-test = c .before .before .before .before .before .before .before .before .before .before .before .loop-test in
     let tail-of = c .before .before .before .before .before .before .before .before .before .before .tail-of in

@@ -1,7 +1,7 @@
 -- `circulation::start::saturate` meets its contract: the flows before i are the first ones.
 use Rattle.network.specs.Net.{net, at}
 use Rattle.circulation.specs.inside.Slackness.{FilledAt}
-use Rattle.circulation.specs.Nodes.{potentials}
+use Rattle.network.specs.Nodes.{potentials}
 use Rattle.circulation.proofs.laws.Starts.{store-more, filled-top}
 use Rattle.circulation.proofs.laws.Valids.{first-small}
 use lib.ListN.{length}

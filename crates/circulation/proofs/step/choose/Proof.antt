@@ -1,6 +1,6 @@
 -- `circulation::step::choose` meets its contract: an arc on its kink is nearest; else the scan finds one.
 use Rattle.network.specs.Net.{at, net}
-use Rattle.circulation.specs.Nodes.{potentials, orders}
+use Rattle.network.specs.Nodes.{potentials, orders}
 use Rattle.circulation.proofs.laws.LeastStep.{near-zero}
 use lib.ListN.{length}
 use Rattle.circulation.proofs.step.choose.Statement.{statement}

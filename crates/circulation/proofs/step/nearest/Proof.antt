@@ -1,6 +1,6 @@
 -- `circulation::step::nearest` meets its contract: the loop's invariant is `Seeking`; a step of 0 is the least.
 use Rattle.network.specs.Net.{at, net}
-use Rattle.circulation.specs.Nodes.{potentials, orders}
+use Rattle.network.specs.Nodes.{potentials, orders}
 use mathlib.Core.Logic.{⊎-elim}
 use Prim.Native.Nat.{_-_}
 use lib.ListN.{length}

@@ -1,7 +1,7 @@
 -- `leftmost::attempt::attempt` meets its contract: a guess that passes is a solution once its potentials are relative to ground's.
 use Rattle.leftmost.proofs.laws.Passes.{passes-grounded, passes-left}
 use Rattle.leftmost.proofs.laws.Shown.{shown-past}
-use Rattle.circulation.specs.Nodes.{node-stride}
+use Rattle.network.specs.Nodes.{node-stride}
 use Prim.Native.Nat.{ℕ, _/_}
 use mathlib.Core.Path.{sym, _∙_, ap}
 use lib.ListN.{replicate}
@@ -14,7 +14,8 @@ guess-requires c κs = search needs
 
 optimal-requires : tie.Need-optimal-requires
 optimal-requires c κs =
-    let start = c .before .before .before .before .before .before .before .before .before .before .before .before .before .before .before .before in
+    let start = c .before .before .before .before .before .before .before .before .before .before .before .before .before .before .before
+    .before in
     let guess = c .before .before .before .before .before .before .before .before .guess in
     rw (guess .kept .1 .0, guess .kept .1 .1 .0) (start .pre .wf)
 
@@ -32,7 +33,8 @@ returns c = search needs
 
 finish-requires : tie.Need-finish-requires
 finish-requires c κs =
-    let start = c .before .before .before .before .before .before .before .before .before .before .before .before .before .before .before .before .before .before .before .before .before in
+    let start = c .before .before .before .before .before .before .before .before .before .before .before .before .before .before .before
+    .before .before .before .before .before .before in
     let guess = c .before .before .before .before .before .before .before .before .before .before .before .before .before .guess in
     let optimal = c .before .before .before .before .optimal in
     let if1 = c .before .if1 in
@@ -54,8 +56,10 @@ same-length-6 c = search needs
 
 returns-2 : tie.Need-returns-2
 returns-2 c =
-    let start = c .before .before .before .before .before .before .before .before .before .before .before .before .before .before .before .before .before .before .before .before .before .before .before .before .before .before .before .before in
-    let guess = c .before .before .before .before .before .before .before .before .before .before .before .before .before .before .before .before .before .before .before .before .guess in
+    let start = c .before .before .before .before .before .before .before .before .before .before .before .before .before .before .before
+    .before .before .before .before .before .before .before .before .before .before .before .before .before in
+    let guess = c .before .before .before .before .before .before .before .before .before .before .before .before .before .before .before
+    .before .before .before .before .before .guess in
     let optimal = c .before .before .before .before .before .before .before .before .before .before .before .optimal in
     let if1 = c .before .before .before .before .before .before .before .before .if1 in
     let finish = c .before .before .before .before .before .before .finish in

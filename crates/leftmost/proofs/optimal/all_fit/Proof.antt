@@ -1,7 +1,7 @@
 -- `leftmost::optimal::all_fit` meets its contract: the flows before i fit.
 use Rattle.leftmost.proofs.laws.Shown.{shown-past}
 use Rattle.leftmost.specs.inside.Optimal.{FitsAt}
-use Rattle.circulation.specs.Nodes.{potentials}
+use Rattle.network.specs.Nodes.{potentials}
 use Rattle.network.specs.Net.{at, net}
 use borrow.Author.Count.{below-none, below-more}
 use lib.ListN.{length}

@@ -1,7 +1,7 @@
 -- `leftmost::optimal::all_supported` meets its contract: the nodes before v are supported.
 use Rattle.leftmost.proofs.laws.Shown.{shown-past}
 use Rattle.circulation.specs.inside.Optimal.{Support}
-use Rattle.circulation.specs.Nodes.{potentials, orders, size}
+use Rattle.network.specs.Nodes.{potentials, orders, size}
 use Rattle.network.specs.Net.{at, net}
 use borrow.Author.Count.{below-none, below-more}
 use lib.ListN.{length}

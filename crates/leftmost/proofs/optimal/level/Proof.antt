@@ -1,5 +1,5 @@
 -- `leftmost::optimal::level` meets its contract: the nodes before v are level.
-use Rattle.circulation.specs.Nodes.{deficit-zero, deficits, size}
+use Rattle.network.specs.Nodes.{deficit-zero, deficits, size}
 use Rattle.network.specs.Net.{at}
 use borrow.Author.Count.{below-none, below-more}
 use Prim.Native.Nat.{ℕ, _≤_, _<_, _-_}

@@ -30,8 +30,10 @@ same-length-3 c = search needs
 
 returns : tie.Need-returns
 returns c =
-    let start = c .before .before .before .before .before .before .before .before .before .before .before .before .before .before .before .before .before .before .before .before .before .before .before .before in
-    let least = c .before .before .before .before .before .before .before .before .before .before .before .before .before .before .before .before .before .before .least in
+    let start = c .before .before .before .before .before .before .before .before .before .before .before .before .before .before .before
+    .before .before .before .before .before .before .before .before .before in
+    let least = c .before .before .before .before .before .before .before .before .before .before .before .before .before .before .before
+    .before .before .before .least in
     let set = c .before .before .before .before .before .before .before .before .before .before .before .before .before .set-potentials in
     let solve = c .before .before .before .before .before .before .before .before .solve in
     let clear = c .before .before .clear in

@@ -6,7 +6,7 @@ use native.Mathlib.Omega.{arith}
 use borrow.Author.Needs.{needs}
 use lib.ListN.{length, getD, set, length-set}
 use Rattle.leftmost.specs.inside.Potentials.{potentials-to}
-use Rattle.circulation.specs.Nodes.{node-stride}
+use Rattle.network.specs.Nodes.{node-stride}
 use Rattle.leftmost.proofs.laws.Potentials.{potentials-none, potentials-next}
 use Rattle.leftmost.proofs.start.set_potentials.Statement.{statement}
 use Rattle.leftmost.proofs.start.set_potentials.Tie as tie

@@ -1,10 +1,10 @@
 -- The nodes as packed numbers, six to a node: potential, deficit, place in the order of reaching, parent, residual, and one
--- that is not used. The last node is ground.
+-- that only a guess uses. The last node is ground.
 use Prim.Native.Nat.{ℕ, _+_, _*_, _/_}
 use mathlib.Core.List.{List}
 use lib.ListN.{length}
 use Rattle.network.specs.Sums.{upto}
 use Rattle.network.specs.Net.{at}
 
 -- from a node to the next one
 abbrev pub node-stride : ℕ
