@@ -7,20 +7,17 @@
 mod change;
 #[cfg(feature = "fault")]
 mod fault;
-#[path = "../../tests/tests/library/mod.rs"]
-mod library;
 mod parts;
 mod rows;
 
 use std::slice;
 
-use strip_tests::compare;
 use strip_tests::random::Random;
 
+#[cfg(not(feature = "fault"))]
+use compare::Proved as Tried;
 #[cfg(feature = "fault")]
 use fault::Faulty as Tried;
-#[cfg(not(feature = "fault"))]
-use library::Proved as Tried;
 
 extern "C" {
     /// Changes bytes in place in one of libFuzzer's own ways, and gives the new length.

@@ -1,8 +1,7 @@
-//! What the tests are made of: sheets and coordinate files by hand and at random, damage, the cases of
-//! `library_test`, and the comparison of a library with the second implementation.
+//! What the tests are made of: sheets and coordinate files by hand and at random, damage, and the cases
+//! of `library_test`. Nothing here needs the library.
 
 pub mod cases;
-pub mod compare;
 pub mod count;
 pub mod damage;
 pub mod document;

@@ -6,6 +6,7 @@ mod wrong;
 
 use std::panic::{catch_unwind, AssertUnwindSafe};
 
+use compare::{sheet, Library};
 use rules::{Broken, Rule, READER, WRITER};
 use second::certificate;
 use second::checker;
@@ -15,7 +16,6 @@ use second::minimum_width::Minimum;
 use second::refusal::{Refusal, NO_DRAWING, NO_WIDTH, SLICE_TOO_SHORT};
 use second::sheet::{self as format, PLAIN};
 use second::solver::solve;
-use strip_tests::compare::{sheet, Library};
 use strip_tests::document::{self, REFUSED};
 use strip_tests::families::parallel;
 use strip_tests::families::turned::mirrored;

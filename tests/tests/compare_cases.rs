@@ -1,12 +1,9 @@
 //! Cases by hand, answered by the library and the second implementation.
 
-mod library;
-
-use library::Proved;
+use compare::{grouped, Proved};
 use strip_tests::cases::{
     check, coordinates, draw, format, narrowest, others, stored, Group, Line,
 };
-use strip_tests::compare::{self, grouped};
 
 /// How often a case is taken or gets a yes, gets a no, and is refused.
 #[derive(Default)]

@@ -2,11 +2,10 @@
 //! kind, most of them near misses.
 
 mod judged;
-mod library;
 
+use compare::scale;
 use judged::{Drawn, Words};
 use second::sheet::STRAIGHT;
-use strip_tests::compare::scale;
 use strip_tests::document;
 use strip_tests::draft::Draft;
 use strip_tests::generate;

@@ -1,14 +1,12 @@
 //! Coordinate files, read and written by the library and the second implementation.
 
 mod answers;
-mod library;
 
 use answers::Answers;
-use library::Proved;
+use compare::coordinates::file;
+use compare::{read, scale, write, Format, Library, Proved};
 use second::coordinates::PLACE_LIMIT;
 use second::refusal::Refusal;
-use strip_tests::compare::coordinates::file;
-use strip_tests::compare::{self, read, scale, write, Format, Library};
 use strip_tests::damage::DAMAGES;
 use strip_tests::draft::Draft;
 use strip_tests::families::{conflicts, realistic, sizes};

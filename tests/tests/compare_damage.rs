@@ -1,9 +1,6 @@
 //! Damaged sheets, answered by the library and the second implementation.
 
-mod library;
-
-use library::Proved;
-use strip_tests::compare::{self, scale, Tally};
+use compare::{scale, Proved, Tally};
 use strip_tests::damage::DAMAGES;
 use strip_tests::document::{self, REFUSED};
 use strip_tests::draft::Draft;

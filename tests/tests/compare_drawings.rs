@@ -1,10 +1,7 @@
 //! Drawings of the library, against those of the second implementation, and brute force.
 
-mod library;
-
-use library::Proved;
+use compare::{scale, Outcome, Proved, Tally};
 use second::drawing::{least_drawings, leftmost};
-use strip_tests::compare::{self, scale, Outcome, Tally};
 use strip_tests::draft::Draft;
 use strip_tests::families::{exhaustive, parallel, realistic, sizes};
 use strip_tests::generate;

@@ -1,11 +1,9 @@
 //! Reading and writing by the library and the second implementation.
 
 mod answers;
-mod library;
 
 use answers::Answers;
-use library::Proved;
-use strip_tests::compare::{self, scale, Format, Library};
+use compare::{scale, Format, Library, Proved};
 use strip_tests::document;
 use strip_tests::draft::encode;
 use strip_tests::generate;

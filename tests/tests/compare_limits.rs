@@ -1,10 +1,7 @@
 //! Sheets that just have a drawing, others that just have none, those about as large as the arrays for
 //! small sheets, and those with the longest edges, drawn by the library and the second implementation.
 
-mod library;
-
-use library::Proved;
-use strip_tests::compare::{self, scale, Tally};
+use compare::{scale, Proved, Tally};
 use strip_tests::draft::Draft;
 use strip_tests::families::conflicts::{any_spiral, crossed, held, spiral};
 use strip_tests::families::turned::{mirrored, upside_down};

@@ -2,13 +2,11 @@
 //! answered by the library and the second implementation; and totals in which each layer counts.
 
 mod judged;
-mod library;
 
+use compare::{scale, Outcome, Proved, Tally};
 use judged::{Drawn, Words};
-use library::Proved;
 use second::certificate::{floor, meets_rules};
 use second::drawing::{is_drawing, total};
-use strip_tests::compare::{self, scale, Outcome, Tally};
 use strip_tests::draft::Draft;
 use strip_tests::families::orders::{
     chain, in_one_pair, in_order, list_in_order, one_in_each_pair, orders, turns,

@@ -2,12 +2,10 @@
 //! parallel edges that leave the drawing as it is; answered by the library and the second implementation.
 
 mod judged;
-mod library;
 
+use compare::{scale, Library, Outcome, Proved, Tally};
 use judged::{Drawn, Words};
-use library::Proved;
 use second::sheet::{PLAIN, STRAIGHT};
-use strip_tests::compare::{self, scale, Library, Outcome, Tally};
 use strip_tests::document;
 use strip_tests::draft::Draft;
 use strip_tests::families::{parallel, realistic, sizes};

@@ -2,12 +2,11 @@
 //! and their lists.
 
 mod judged;
-mod library;
 
+use compare::scale;
 use judged::{Drawn, Words};
 use second::certificate;
 use second::drawing::Sheet;
-use strip_tests::compare::scale;
 use strip_tests::draft::Draft;
 use strip_tests::families::turned::mirrored;
 use strip_tests::families::{realistic, sizes};

@@ -2,13 +2,10 @@
 //! and the second implementation. Each comparison also draws the sheet in that width and in one less,
 //! and asks again with other widths in the sheet.
 
-mod library;
-
-use library::Proved;
+use compare::Proved;
 use second::minimum_width::Minimum;
 use second::refusal::Refusal;
 use second::sheet::{PLAIN, STRAIGHT};
-use strip_tests::compare;
 use strip_tests::document::{self, NO_DRAWING, ONE_NODE, REFUSED};
 use strip_tests::families::sizes::{longest_edges, longest_parallel};
 use strip_tests::families::widths::layer;

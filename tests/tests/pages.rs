@@ -7,7 +7,7 @@ use std::fs;
 use std::path::{Path, PathBuf};
 use std::process::Command;
 
-use strip_tests::compare::grouped;
+use compare::grouped;
 use tools::{folder, root, run_in, shared_library, HEADER, NO_KIT};
 
 /// The pages, from the root of the repository; of the template of a note no path is one of a file.

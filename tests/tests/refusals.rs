@@ -1,15 +1,13 @@
 //! The page of the refusals, docs/REFUSALS.md: a row and a section for each refusal of the header, and
 //! examples in each section that both implementations answer as they say.
 
-mod library;
 mod tools;
 
 use std::fs;
 
-use library::Proved;
+use compare::Proved;
 use second::refusal::Refusal;
 use strip_tests::cases::Call;
-use strip_tests::compare;
 use strip_tests::document::{crossing, NO_DRAWING, ONE_NODE, REFUSED};
 use tools::{refusals, root};
 

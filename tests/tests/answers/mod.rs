@@ -1,7 +1,7 @@
 //! What readers and writers answer, counted.
 
+use compare::{grouped, read_into, write_into, Format, Library};
 use second::refusal::Refusal;
-use strip_tests::compare::{grouped, read_into, write_into, Format, Library};
 
 /// Counts of answers by the number of the refusal; 0 is none.
 #[derive(Default)]

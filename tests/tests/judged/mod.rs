@@ -1,11 +1,9 @@
 //! Drawings of the library, and what both checkers say to places and lists.
 
+use compare::{grouped, judge, Library, Proved};
 use second::certificate;
 use second::drawing::Sheet;
-use strip_tests::compare::{grouped, judge, Library};
 use strip_tests::draft::Draft;
-
-use super::library::Proved;
 
 /// How often both checkers have said each word.
 #[derive(Default)]

@@ -1,12 +1,12 @@
 //! Comparing what is answered to coordinate files.
 
-use super::format::{read, write, written_back, Format};
-use super::{seed, Library};
-use crate::damage::DAMAGES;
-use crate::files::Rows;
-use crate::random::Random;
+use crate::format::{read, write, written_back, Format};
+use crate::{seed, Library};
 use second::drawing::Sheet;
 use second::refusal::{Refusal, NOT_A_SHEET};
+use strip_tests::damage::DAMAGES;
+use strip_tests::files::Rows;
+use strip_tests::random::Random;
 
 /// Compares all that is answered to these bytes as a coordinate file, and gives the numbers: reading
 /// them, and where they are taken writing what is read and lists near it. No sheet is such a file.

@@ -1,6 +1,6 @@
 //! Comparing engines.
 
-use super::Library;
+use crate::Library;
 use second::certificate;
 use second::checker::check;
 use second::drawing::Sheet;

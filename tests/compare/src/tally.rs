@@ -2,10 +2,10 @@
 
 use std::env;
 
-use super::{sheet, Library, Outcome};
-use crate::draft::Draft;
-use crate::random::Random;
+use crate::{sheet, Library, Outcome};
 use second::refusal::{Refusal, NO_DRAWING, NO_WIDTH};
+use strip_tests::draft::Draft;
+use strip_tests::random::Random;
 
 /// How many times more sheets are compared than by default: the environment variable
 /// `STRIP_TEST_SCALE`, or 1.

@@ -5,9 +5,9 @@ use std::fmt::Debug;
 use second::refusal::Refusal;
 use second::{coordinates, sheet};
 
-use super::{near, Library};
-use crate::files;
-use crate::random::Random;
+use crate::{near, Library};
+use strip_tests::files;
+use strip_tests::random::Random;
 
 /// What every number holds before a call.
 const NUMBER_FILL: u16 = 0xa5a5;

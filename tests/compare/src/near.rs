@@ -1,8 +1,8 @@
 //! Near misses: number lists, places and pull lists that differ a little from good ones.
 
-use crate::mutation::{circulate, moved_pull, parallel_pairs};
-use crate::random::Random;
 use second::drawing::Sheet;
+use strip_tests::mutation::{circulate, moved_pull, parallel_pairs};
+use strip_tests::random::Random;
 
 /// Number lists with one number changed, one fewer and one more.
 pub fn numbers(random: &mut Random, numbers: &[u16]) -> Vec<Vec<u16>> {

@@ -1,10 +1,10 @@
 //! Comparing minimum widths.
 
-use super::{drawing, Library};
-use crate::draft::encode;
+use crate::{drawing, Library};
 use second::minimum_width::{minimum_width, Minimum};
 use second::refusal::{Refusal, NO_DRAWING};
 use second::sheet::WIDTH_LIMIT;
+use strip_tests::draft::encode;
 
 /// Compares what both tell of the minimum width, and gives it.
 pub fn told(library: &impl Library, bytes: &[u8]) -> Result<Minimum, Refusal> {

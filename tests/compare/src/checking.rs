@@ -1,12 +1,12 @@
 //! Comparing checkers.
 
-use super::drawing::Drawn;
-use super::{near, Library};
-use crate::random::Random;
+use crate::drawing::Drawn;
+use crate::{near, Library};
 use second::certificate;
 use second::checker;
 use second::drawing::Sheet;
 use second::refusal::Refusal;
+use strip_tests::random::Random;
 
 /// Compares what both checkers say, and gives it.
 pub fn judge(

@@ -1,4 +1,5 @@
-//! Compares a library with the second implementation: what both answer, and what both leave in every slice.
+//! Compares a library with the second implementation: what both answer, and what both leave in every
+//! slice. The library is the proved one, or one with a fault.
 //!
 //! Every function here panics where the two differ. Only the pull list of a drawing may be another
 //! one; both checkers must accept it.
@@ -7,37 +8,21 @@ mod checking;
 pub mod coordinates;
 mod drawing;
 mod format;
+mod library;
 mod narrowest;
 mod near;
 mod tally;
 
-use crate::cases::Call;
-use crate::random::Random;
 use second::drawing::Sheet;
 use second::minimum_width::Minimum;
 use second::refusal::Refusal;
+use strip_tests::cases::Call;
+use strip_tests::random::Random;
 
 pub use checking::judge;
 pub use format::{read, read_into, write, write_into, Format};
+pub use library::{Library, Proved};
 pub use tally::{grouped, scale, Tally};
-
-/// The seven functions of a library, as documents 01 and 02 have them.
-pub trait Library {
-    /// Reads a sheet's numbers into the front of a slice, and gives their count.
-    fn read(&self, sheet: &[u8], numbers: &mut [u16]) -> Result<usize, Refusal>;
-    /// Writes the sheet of a number list into the front of a slice, and gives the count of bytes.
-    fn write(&self, numbers: &[u16], sheet: &mut [u8]) -> Result<usize, Refusal>;
-    /// Writes the drawing of a sheet and a pull list into the fronts of slices, and gives the total.
-    fn draw(&self, sheet: &[u8], places: &mut [u16], list: &mut [i32]) -> Result<u32, Refusal>;
-    /// Says whether a list shows that places are a drawing of least total.
-    fn check(&self, sheet: &[u8], places: &[u16], list: &[i32]) -> Result<bool, Refusal>;
-    /// Tells the minimum width of a sheet, and the least total there.
-    fn narrowest(&self, sheet: &[u8]) -> Result<Minimum, Refusal>;
-    /// Reads the numbers of a coordinate file into the front of a slice, and gives their count.
-    fn read_drawing(&self, file: &[u8], numbers: &mut [u16]) -> Result<usize, Refusal>;
-    /// Writes the coordinate file of a list into the front of a slice, and gives the count of bytes.
-    fn write_drawing(&self, numbers: &[u16], file: &mut [u8]) -> Result<usize, Refusal>;
-}
 
 /// What both answer to a sheet, and how often both checkers say yes and no.
 #[derive(Clone, Debug)]
