@@ -35,29 +35,49 @@ from typing import Iterable, List, NamedTuple, Tuple
 
 __version__ = "0.1.0"
 
+# generated from strip.h, constants: begin
 # No sheet has more bytes.
 MAX_SHEET_BYTES = 5121
 # The greatest count of numbers in a sheet's number list.
 MAX_NUMBERS = 2559
 # The greatest count of places in a drawing: one for each node.
 MAX_PLACES = 256
-# The greatest count of numbers in a certificate: one for each edge and two for each node.
+# The greatest count of numbers in a list: one for each edge and two for each node.
 MAX_LIST = 1024
-# The greatest count of numbers in a coordinate file's number list: 1, and one for each layer and each node.
+# The greatest count of numbers in the list of a coordinate file: the count of layers, one for each
+# layer and one for each node.
 MAX_DRAWING_NUMBERS = 321
 # No coordinate file has more bytes.
 MAX_DRAWING_BYTES = 645
+# The stack that any of the functions needs, in bytes.
+STACK_BYTES = 53248
+# generated from strip.h, constants: end
 
 # The numbers of the refusals.
+# generated from strip.h, refusals: begin
+# The input ends before the sheet or file does. The offset is the input's length.
 INPUT_ENDED = 1
+# The first three bytes are not those of the format: 53 50 31 for a sheet, 53 44 31 for a
+# coordinate file. Both readers meet it, each with the other's bytes too. The offset is 0.
 NOT_A_SHEET = 2
+# A number is not in the fewest bytes, or takes more than two. The offset is that of the
+# number's first byte.
 NUMBER_FORM = 3
+# A number lies outside its limits. The offset is that of the number's first byte.
 OUTSIDE_LIMITS = 4
+# A maximum separation is set and is below its minimum separation. The offset is that of the
+# maximum's first byte.
 SEPARATIONS_CROSSED = 5
+# Something follows the last edge of a sheet, or the last node of a coordinate file. The offset
+# is that of the first byte too many.
 SOMETHING_FOLLOWS = 6
+# A slice is too short for what is to be read or written there. The offset is 0.
 SLICE_SHORT = 7
+# No drawing exists. The offset is 0.
 NO_DRAWING = 8
+# No width from 0 to 4,095 has a drawing. The offset is 0.
 NO_WIDTH = 10
+# generated from strip.h, refusals: end
 
 
 class Refusal(Exception):
@@ -165,15 +185,23 @@ def sizes(numbers: List[int]) -> Tuple[List[int], int]:
 # The elements of slices.
 _U8, _U16, _I32 = ctypes.c_uint8, ctypes.c_uint16, ctypes.c_int32
 
-# The slices that each function takes.
+
+def _slice(element: type) -> Tuple[type, type]:
+    """The types of a slice in C: a pointer and a count."""
+    return ctypes.POINTER(element), ctypes.c_size_t
+
+
+# The functions, each with the type of its result and those of what it takes.
 _FUNCTIONS = {
-    "strip_read": (_U8, _U16),
-    "strip_write": (_U16, _U8),
-    "strip_draw": (_U8, _U16, _I32),
-    "strip_check": (_U8, _U16, _I32),
-    "strip_narrowest": (_U8,),
-    "strip_read_drawing": (_U8, _U16),
-    "strip_write_drawing": (_U16, _U8),
+    # generated from strip.h, functions: begin
+    "strip_read": [ctypes.c_uint64, *_slice(ctypes.c_uint8), *_slice(ctypes.c_uint16)],
+    "strip_write": [ctypes.c_uint64, *_slice(ctypes.c_uint16), *_slice(ctypes.c_uint8)],
+    "strip_draw": [ctypes.c_uint64, *_slice(ctypes.c_uint8), *_slice(ctypes.c_uint16), *_slice(ctypes.c_int32)],
+    "strip_check": [ctypes.c_uint64, *_slice(ctypes.c_uint8), *_slice(ctypes.c_uint16), *_slice(ctypes.c_int32)],
+    "strip_narrowest": [ctypes.c_uint64, *_slice(ctypes.c_uint8)],
+    "strip_read_drawing": [ctypes.c_uint64, *_slice(ctypes.c_uint8), *_slice(ctypes.c_uint16)],
+    "strip_write_drawing": [ctypes.c_uint64, *_slice(ctypes.c_uint16), *_slice(ctypes.c_uint8)],
+    # generated from strip.h, functions: end
 }
 
 
@@ -212,12 +240,11 @@ def _answer(name: str, *slices: ctypes.Array) -> Tuple[int, int]:
 
 @functools.lru_cache(maxsize=None)
 def _library() -> ctypes.CDLL:
-    """The shared library with the types of its functions: for each slice a pointer and a count."""
+    """The shared library with the types of its functions."""
     built = os.path.join(os.path.dirname(os.path.abspath(__file__)), "../../target/lib/libstrip.so.0")
     installed = "libstrip.so.0"
     library = ctypes.CDLL(os.environ.get("STRIP_LIBRARY") or (built if os.path.exists(built) else installed))
-    for function, elements in _FUNCTIONS.items():
-        types = [kind for element in elements for kind in (ctypes.POINTER(element), ctypes.c_size_t)]
-        getattr(library, function).argtypes = types
-        getattr(library, function).restype = ctypes.c_uint64
+    for name, (result, *parameters) in _FUNCTIONS.items():
+        function = getattr(library, name)
+        function.restype, function.argtypes = result, parameters
     return library

@@ -4,6 +4,7 @@
 pub mod cases;
 pub mod count;
 pub mod damage;
+pub mod declare;
 pub mod document;
 pub mod draft;
 pub mod driver;

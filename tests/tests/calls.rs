@@ -1,14 +1,12 @@
-//! The header: a C program that calls every function, every language standard, the same names and
-//! numbers as in the Rust wrapper.
+//! The header: a C program that calls every function, every language standard, the numbers that the
+//! crates give, and those of the Python module.
 
 mod tools;
 
-use std::collections::BTreeMap;
 use std::fs;
 use std::process::Command;
 
-use strip::Refusal;
-use tools::{compiler, folder, output, python, refusals, root, HEADER, LIBRARY};
+use tools::{compiler, folder, numbers, output, python, root, HEADER, LIBRARY};
 
 #[test]
 fn calls_from_c_are_answered() {
@@ -41,54 +39,34 @@ fn header_is_clean_in_every_standard() {
     }
 }
 
-/// The numbers that the header gives to names, without `STRIP_`.
-fn named_numbers() -> BTreeMap<String, u32> {
-    let header = fs::read_to_string(root().join(HEADER)).expect("the header");
-    let number = |line: &str| {
-        let line = line.trim().trim_start_matches("#define ");
-        let line = line.strip_prefix("STRIP_")?.replace(" = ", " ");
-        let (name, number) = line.trim_end_matches(',').split_once(' ')?;
-        Some((name.to_string(), number.parse().ok()?))
-    };
-    header.lines().filter_map(number).collect()
+/// The number and the name of a refusal in a line of a crate's code, if it has one.
+fn refusal(line: &str) -> Option<(u32, String)> {
+    let (name, number) = line.strip_prefix("pub const ")?.split_once(": u8 = ")?;
+    Some((number.strip_suffix(';')?.parse().ok()?, name.to_string()))
+}
+
+/// The numbers and names of the refusals in the crates that give them.
+fn given() -> Vec<(u32, String)> {
+    let mut found = Vec::new();
+    for entry in fs::read_dir(root().join("crates")).expect("the crates") {
+        let path = entry.expect("a crate").path().join("src/refusals.rt");
+        let text = fs::read_to_string(path).unwrap_or_default();
+        found.extend(text.lines().filter_map(refusal));
+    }
+    found.sort_unstable();
+    found
 }
 
 #[test]
-fn wrapper_has_the_numbers_of_the_header() {
-    let numbers = [
-        ("OK", 0),
-        ("INPUT_ENDED", Refusal::INPUT_ENDED),
-        ("NOT_A_SHEET", Refusal::NOT_A_SHEET),
-        ("NUMBER_FORM", Refusal::NUMBER_FORM),
-        ("OUTSIDE_LIMITS", Refusal::OUTSIDE_LIMITS),
-        ("SEPARATIONS_CROSSED", Refusal::SEPARATIONS_CROSSED),
-        ("SOMETHING_FOLLOWS", Refusal::SOMETHING_FOLLOWS),
-        ("SLICE_SHORT", Refusal::SLICE_SHORT),
-        ("NO_DRAWING", Refusal::NO_DRAWING),
-        ("NO_WIDTH", Refusal::NO_WIDTH),
-        ("MAX_SHEET_BYTES", strip::MAX_SHEET_BYTES as u32),
-        ("MAX_NUMBERS", strip::MAX_NUMBERS as u32),
-        ("MAX_PLACES", strip::MAX_PLACES as u32),
-        ("MAX_LIST", strip::MAX_LIST as u32),
-        ("MAX_DRAWING_NUMBERS", strip::MAX_DRAWING_NUMBERS as u32),
-        ("MAX_DRAWING_BYTES", strip::MAX_DRAWING_BYTES as u32),
-        ("STACK_BYTES", strip::STACK_BYTES as u32),
-    ];
-    let numbers = numbers.map(|(name, number)| (name.to_string(), number));
-    assert_eq!(limits_and_refusals(), BTreeMap::from(numbers));
-}
-
-#[test]
-fn refusals_of_the_header_are_0_to_8_and_10_each_once() {
-    let numbers: Vec<u32> = refusals().iter().map(|&(_, number)| number).collect();
-    assert_eq!(numbers, [0, 1, 2, 3, 4, 5, 6, 7, 8, 10]);
-}
-
-/// The numbers of the header but those of its version.
-fn limits_and_refusals() -> BTreeMap<String, u32> {
-    let mut numbers = named_numbers();
-    numbers.retain(|name, _| !name.starts_with("VERSION"));
-    numbers
+fn refusals_of_the_header_are_those_that_the_crates_give() {
+    // a crate that knows no sheets gives 2
+    let own = |name: String| name.replace("OTHER_MAGIC", "NOT_A_SHEET");
+    let given: Vec<_> = given()
+        .into_iter()
+        .map(|(n, name)| (own(name), n))
+        .collect();
+    assert_eq!(numbers("refusals"), given);
+    assert!(given.len() >= 9 && given.iter().all(|&(_, number)| number != 9));
 }
 
 /// What Python prints, with the module at hand.
@@ -98,10 +76,8 @@ fn told_by_python(code: &str) -> String {
 
 #[test]
 fn python_module_has_the_numbers_of_the_header() {
-    let mut numbers = limits_and_refusals();
-    for name in ["OK", "STACK_BYTES"] {
-        numbers.remove(name).expect(name);
-    }
+    let mut numbers = [numbers("constants"), numbers("refusals")].concat();
+    numbers.sort_unstable();
     let lines = numbers.iter().map(|(name, n)| format!("{name} {n}\n"));
     let code = "for name in sorted(n for n in vars(strip) if n.isupper() and n[0] != '_'):
     print(name, vars(strip)[name])";
@@ -110,11 +86,13 @@ fn python_module_has_the_numbers_of_the_header() {
 
 #[test]
 fn version_is_the_same_everywhere() {
-    let numbers = named_numbers();
-    let part = |name: &str| numbers[&format!("VERSION_{name}")];
-    let version = ["MAJOR", "MINOR", "PATCH"].map(part).map(|n| n.to_string());
-    let version = version.join(".");
     let header = fs::read_to_string(root().join(HEADER)).expect("the header");
+    let part = |name: &str| {
+        let start = format!("#define STRIP_VERSION_{name} ");
+        let part = header.lines().find_map(|line| line.strip_prefix(&start));
+        part.expect(name)
+    };
+    let version = ["MAJOR", "MINOR", "PATCH"].map(part).join(".");
     let text = format!("#define STRIP_VERSION \"{version}\"\n");
     assert!(header.contains(&text), "{text}");
     assert_eq!(strip::VERSION, version);

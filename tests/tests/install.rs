@@ -9,7 +9,7 @@ use std::os::unix::fs::PermissionsExt;
 use std::path::{Path, PathBuf};
 use std::process::Command;
 
-use tools::{compiler, folder, make, output, root, shared_library};
+use tools::{compiler, folder, functions, make, output, root, shared_library};
 
 /// Where the files go, below the folder of the test.
 const PREFIX: &str = "/prefix";
@@ -138,18 +138,7 @@ fn installed_files_serve_and_go_again() {
     let link = fs::read_link(place(&folder, "lib/libstrip.so")).expect("a link");
     assert_eq!(link, Path::new("libstrip.so.0"));
     let names = exports(&place(&folder, "lib/libstrip.so.0"));
-    assert_eq!(
-        names,
-        [
-            "strip_check",
-            "strip_draw",
-            "strip_narrowest",
-            "strip_read",
-            "strip_read_drawing",
-            "strip_write",
-            "strip_write_drawing"
-        ]
-    );
+    assert_eq!(names, functions());
     check_shared(&folder);
     check_static(&folder);
     make_below(&folder, "uninstall");

@@ -8,7 +8,7 @@ use std::path::{Path, PathBuf};
 use std::process::Command;
 
 use compare::grouped;
-use tools::{folder, root, run_in, shared_library, HEADER, NO_KIT};
+use tools::{folder, functions, numbers, root, run_in, shared_library, NO_KIT};
 
 /// The pages, from the root of the repository; of the template of a note no path is one of a file.
 fn pages() -> Vec<PathBuf> {
@@ -174,20 +174,18 @@ fn commands_for_the_library_work() {
 #[test]
 fn functions_and_sizes_of_the_header_are_in_the_library_page() {
     let page = text(Path::new("docs/LIBRARY.md"));
-    let header = text(Path::new(HEADER));
-    let names: Vec<&str> = between(&header, "\nuint64_t ", "(").collect();
+    let names = functions();
     assert!(names.len() >= 7, "{names:?}");
     for name in names {
         // what it does, and its stack
         let row = format!("\n| `{name}` | ");
         assert_eq!(page.matches(&row).count(), 2, "{name}");
     }
-    let sizes: Vec<&str> = between(&header, "#define STRIP_MAX_", "\n").collect();
+    let mut sizes = numbers("constants");
+    sizes.retain(|(name, _)| name.starts_with("MAX_"));
     assert!(sizes.len() >= 6, "{sizes:?}");
-    for size in sizes {
-        let (name, number) = size.split_once(' ').expect("a name and a number");
-        let number = grouped(number.parse().expect("a number"));
-        let row = format!(" | `STRIP_MAX_{name}`, {number} |\n");
+    for (name, number) in sizes {
+        let row = format!(" | `STRIP_{name}`, {} |\n", grouped(number as usize));
         assert!(page.contains(&row), "{row}");
     }
 }

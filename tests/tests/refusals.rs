@@ -9,7 +9,7 @@ use compare::Proved;
 use second::refusal::Refusal;
 use strip_tests::cases::Call;
 use strip_tests::document::{crossing, NO_DRAWING, ONE_NODE, REFUSED};
-use tools::{refusals, root};
+use tools::root;
 
 /// The text of the page.
 fn page() -> String {
@@ -118,22 +118,8 @@ fn file_examples(section: &str) -> Vec<(Call, Refusal)> {
 fn each_refusal_of_the_header_has_one_section() {
     let page = page();
     let numbers: Vec<u32> = sections(&page).iter().map(|&(n, _)| n).collect();
-    let header: Vec<u32> = refusals().iter().map(|&(_, n)| n).collect();
-    assert_eq!(numbers, header[1..]);
-}
-
-#[test]
-fn table_has_the_names_and_numbers_of_the_header() {
-    let page = page();
-    let rows = page.lines().filter(|line| line.starts_with("| ["));
-    let row = |row: &str| {
-        let (number, rest) = row.strip_prefix("| [")?.split_once(']')?;
-        let (_, rest) = rest.split_once(" | `STRIP_")?;
-        let (name, _) = rest.split_once("` | ")?;
-        Some((name.to_string(), number.parse().ok()?))
-    };
-    let rows: Vec<_> = rows.map(|line| row(line).expect(line)).collect();
-    assert_eq!(rows, refusals()[1..]);
+    let header: Vec<u32> = tools::numbers("refusals").iter().map(|&(_, n)| n).collect();
+    assert_eq!(numbers, header);
 }
 
 #[test]

@@ -20,6 +20,7 @@ use std::fmt;
 
 /// The version of the library.
 pub const VERSION: &str = env!("CARGO_PKG_VERSION");
+// generated from strip.h, constants: begin
 /// No sheet has more bytes.
 pub const MAX_SHEET_BYTES: usize = 5121;
 /// The greatest count of numbers in a sheet's number list.
@@ -28,13 +29,14 @@ pub const MAX_NUMBERS: usize = 2559;
 pub const MAX_PLACES: usize = 256;
 /// The greatest count of numbers in a list: one for each edge and two for each node.
 pub const MAX_LIST: usize = 1024;
-/// The greatest count of numbers in the list of a coordinate file: the count of layers, one for
-/// each layer and one for each node.
+/// The greatest count of numbers in the list of a coordinate file: the count of layers, one for each
+/// layer and one for each node.
 pub const MAX_DRAWING_NUMBERS: usize = 321;
 /// No coordinate file has more bytes.
 pub const MAX_DRAWING_BYTES: usize = 645;
-/// The stack that any of the library's functions needs, in bytes.
+/// The stack that any of the functions needs, in bytes.
 pub const STACK_BYTES: usize = 53248;
+// generated from strip.h, constants: end
 
 /// Why there is no answer: the number of the refusal and where in the input.
 #[derive(Clone, Copy, Debug, PartialEq, Eq)]
@@ -48,25 +50,30 @@ pub struct Refusal {
 
 /// The numbers of the refusals.
 impl Refusal {
-    /// The input ends before the sheet or file does; the offset is its length.
+    // generated from strip.h, refusals: begin
+    /// The input ends before the sheet or file does. The offset is the input's length.
     pub const INPUT_ENDED: u32 = 1;
     /// The first three bytes are not those of the format: 53 50 31 for a sheet, 53 44 31 for a
-    /// coordinate file. Both readers meet it, each with the other's bytes too.
+    /// coordinate file. Both readers meet it, each with the other's bytes too. The offset is 0.
     pub const NOT_A_SHEET: u32 = 2;
-    /// A number is not in the fewest bytes, or takes more than two.
+    /// A number is not in the fewest bytes, or takes more than two. The offset is that of the
+    /// number's first byte.
     pub const NUMBER_FORM: u32 = 3;
-    /// A number lies outside its limits.
+    /// A number lies outside its limits. The offset is that of the number's first byte.
     pub const OUTSIDE_LIMITS: u32 = 4;
-    /// A maximum separation is set and is below its minimum separation.
+    /// A maximum separation is set and is below its minimum separation. The offset is that of the
+    /// maximum's first byte.
     pub const SEPARATIONS_CROSSED: u32 = 5;
-    /// Something follows the last edge of a sheet, or the last node of a coordinate file.
+    /// Something follows the last edge of a sheet, or the last node of a coordinate file. The offset
+    /// is that of the first byte too many.
     pub const SOMETHING_FOLLOWS: u32 = 6;
-    /// A slice is too short for what is to be read or written there.
+    /// A slice is too short for what is to be read or written there. The offset is 0.
     pub const SLICE_SHORT: u32 = 7;
-    /// No drawing exists.
+    /// No drawing exists. The offset is 0.
     pub const NO_DRAWING: u32 = 8;
-    /// No width from 0 to 4,095 has a drawing.
+    /// No width from 0 to 4,095 has a drawing. The offset is 0.
     pub const NO_WIDTH: u32 = 10;
+    // generated from strip.h, refusals: end
 }
 
 /// The refusal as the program `place` prints it.
@@ -91,6 +98,7 @@ pub struct Narrowest {
 /// value.
 mod raw {
     extern "C" {
+        // generated from strip.h, functions: begin
         pub fn strip_read(
             sheet: *const u8,
             sheet_len: usize,
@@ -132,6 +140,7 @@ mod raw {
             file: *mut u8,
             file_len: usize,
         ) -> u64;
+        // generated from strip.h, functions: end
     }
 }
 

@@ -47,31 +47,35 @@ extern "C" {
 #define STRIP_MAX_DRAWING_NUMBERS 321
 /* No coordinate file has more bytes. */
 #define STRIP_MAX_DRAWING_BYTES 645
-/* The stack that any of the functions needs, in bytes. strip_narrowest needs the most. */
+/* The stack that any of the functions needs, in bytes. */
 #define STRIP_STACK_BYTES 53248
 
-/* The values of strip_refusal(). 9 is not used: later numbers begin at 10. */
+/* The values of strip_refusal(); strip_value() is then the offset. 9 is not used: later numbers
+ * begin at 10. */
 enum {
     /* The call succeeded. */
     STRIP_OK = 0,
-    /* The input ends before the sheet or file does; the value is its length. */
+    /* The input ends before the sheet or file does. The offset is the input's length. */
     STRIP_INPUT_ENDED = 1,
     /* The first three bytes are not those of the format: 53 50 31 for a sheet, 53 44 31 for a
-     * coordinate file. Both readers meet it, each with the other's bytes too. */
+     * coordinate file. Both readers meet it, each with the other's bytes too. The offset is 0. */
     STRIP_NOT_A_SHEET = 2,
-    /* A number is not in the fewest bytes, or takes more than two. */
+    /* A number is not in the fewest bytes, or takes more than two. The offset is that of the
+     * number's first byte. */
     STRIP_NUMBER_FORM = 3,
-    /* A number lies outside its limits. */
+    /* A number lies outside its limits. The offset is that of the number's first byte. */
     STRIP_OUTSIDE_LIMITS = 4,
-    /* A maximum separation is set and is below its minimum separation. */
+    /* A maximum separation is set and is below its minimum separation. The offset is that of the
+     * maximum's first byte. */
     STRIP_SEPARATIONS_CROSSED = 5,
-    /* Something follows the last edge of a sheet, or the last node of a coordinate file. */
+    /* Something follows the last edge of a sheet, or the last node of a coordinate file. The offset
+     * is that of the first byte too many. */
     STRIP_SOMETHING_FOLLOWS = 6,
-    /* A slice is too short for what is to be read or written there. */
+    /* A slice is too short for what is to be read or written there. The offset is 0. */
     STRIP_SLICE_SHORT = 7,
-    /* No drawing exists. */
+    /* No drawing exists. The offset is 0. */
     STRIP_NO_DRAWING = 8,
-    /* No width from 0 to 4,095 has a drawing. */
+    /* No width from 0 to 4,095 has a drawing. The offset is 0. */
     STRIP_NO_WIDTH = 10
 };
 
@@ -86,10 +90,10 @@ uint64_t strip_write(const uint16_t *numbers, size_t numbers_len,
                      uint8_t *sheet, size_t sheet_len);
 
 /* Writes the leftmost drawing of least total, and a list that shows it to be least. The value is
- * the total: the lengths of the edges, added, where parallel edges (those with the same two ends)
- * count once. The list starts with a pull for each edge, in the sheet's order: of parallel edges
- * the first carries the pull, and each later one's is 0. Refusals 1 to 8. STRIP_MAX_PLACES and
- * STRIP_MAX_LIST are enough for every sheet. */
+ * the total. It is the lengths of the edges, added, where parallel edges (those with the same two
+ * ends) count once. The list starts with a pull for each edge, in the sheet's order: of parallel
+ * edges the first carries the pull, and each later one's is 0. Refusals 1 to 8. STRIP_MAX_PLACES
+ * and STRIP_MAX_LIST are enough for every sheet. */
 uint64_t strip_draw(const uint8_t *sheet, size_t sheet_len,
                     uint16_t *places, size_t places_len,
                     int32_t *list, size_t list_len);

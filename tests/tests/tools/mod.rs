@@ -6,13 +6,14 @@ use std::path::{Path, PathBuf};
 use std::process::{Command, Output};
 use std::sync::Once;
 
+use strip_tests::declare::{parse, Item};
+
 /// The header and the static library, as a compiler takes them.
 #[allow(dead_code)]
 pub const LIBRARY: [&str; 2] = ["-Icrates/strip/include", "target/staticlib/libstrip.a"];
 
-/// The header, from the root of the repository.
-#[allow(dead_code)]
-pub const HEADER: &str = "crates/strip/include/strip.h";
+#[allow(unused_imports)]
+pub use strip_tests::declare::HEADER;
 
 /// The root of the repository.
 pub fn root() -> PathBuf {
@@ -52,22 +53,36 @@ pub fn output(command: &mut Command) -> String {
     printed.into_owned()
 }
 
-/// The refusals in the header's enum, in its order, by name without `STRIP_` and number; 0 is none.
+/// The `constants`, the `refusals` or the `functions` of the header, in its order.
 #[allow(dead_code)]
-pub fn refusals() -> Vec<(String, u32)> {
-    let header = fs::read_to_string(root().join(HEADER)).expect("the header");
-    let enums: Vec<&str> = header.split("enum {").skip(1).collect();
-    assert_eq!(enums.len(), 1, "the header has one enum");
-    let (inside, _) = enums[0].split_once("};").expect("the end of the enum");
-    // all that is left without the comments is names with their numbers
-    let code = |part: &str| part.split("/*").next().map(str::to_owned);
-    let code: String = inside.split("*/").filter_map(code).collect();
-    let refusal = |item: &str| {
-        let (name, number) = item.trim().strip_prefix("STRIP_")?.split_once(" = ")?;
-        Some((name.to_string(), number.parse().ok()?))
-    };
-    let refusal = |item| refusal(item).unwrap_or_else(|| panic!("no name with its number: {item}"));
-    code.split(',').map(refusal).collect()
+pub fn header(kind: &str) -> Vec<Item> {
+    let text = fs::read_to_string(root().join(HEADER)).expect("the header");
+    let mut header = parse(&text).expect("a header that can be read");
+    header.remove(kind).expect(kind)
+}
+
+/// The names of all functions of the header, in alphabetical order.
+#[allow(dead_code)]
+pub fn functions() -> Vec<String> {
+    let mut names: Vec<String> = header("functions").iter().map(name).collect();
+    names.sort_unstable();
+    names
+}
+
+/// The name of an item of the header.
+fn name(item: &Item) -> String {
+    item["name"].clone()
+}
+
+/// The numbers of constants or refusals of the header, by their names without `STRIP_`.
+#[allow(dead_code)]
+pub fn numbers(kind: &str) -> Vec<(String, u32)> {
+    let number = |item: &Item| item["number"].parse().expect("a number");
+    let items = header(kind);
+    items
+        .iter()
+        .map(|item| (name(item), number(item)))
+        .collect()
 }
 
 /// A command that compiles and allows no warning.
