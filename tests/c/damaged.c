@@ -1,5 +1,5 @@
 /*
- * Calls the seven functions of the library on sheets, coordinate files and number lists, each slice
+ * Calls the functions of the library on sheets, coordinate files and number lists, each slice
  * in a block of memory of exactly its size, and prints every answer.
  *
  *     damaged PLACEMENT FAULT FILE
@@ -122,8 +122,13 @@ static void check_kept(struct block block, size_t front) {
             fail("a call has written outside its result");
 }
 
+/* Prints an answer. */
+static void show(const char *name, uint64_t answer) {
+    printf("%s %016llx\n", name, (unsigned long long)answer);
+}
+
 /* Prints an answer and the sum of what was written, and checks the rest. */
-static void show(const char *name, uint64_t answer, struct block written, size_t size) {
+static void show_written(const char *name, uint64_t answer, struct block written, size_t size) {
     printf("%s %016llx %08x\n", name, (unsigned long long)answer, sum(written, size));
     check_kept(written, size);
 }
@@ -136,7 +141,7 @@ static void try_read(const char *name, reader read, const struct item *item, con
         struct block numbers = take(2 * length);
         uint64_t answer =
             read(source.data, item->size + read_fault, numbers.data, length + write_fault);
-        show(name, answer, numbers, 2 * count_in(answer));
+        show_written(name, answer, numbers, 2 * count_in(answer));
         give_back(numbers);
         give_back(source);
     }
@@ -149,10 +154,16 @@ static void try_write(const char *name, writer write, const struct item *item, c
         struct block numbers = copy_of(bytes, item->size);
         struct block written = take(length);
         uint64_t answer = write(numbers.data, item->size / 2, written.data, length);
-        show(name, answer, written, count_in(answer));
+        show_written(name, answer, written, count_in(answer));
         give_back(written);
         give_back(numbers);
     }
+}
+
+/* Has the checker look at places and a list. */
+static void check(struct block sheet, struct block places, struct block list) {
+    show("strip_check", strip_check(sheet.data, sheet.size, places.data, places.size / 2, list.data,
+                                    list.size / 4));
 }
 
 /* Draws a sheet into slices that are longer than needed, and has the checker look at them. A refusal
@@ -164,74 +175,92 @@ static void try_draw(const struct item *item, const void *bytes, long more_place
     uint64_t answer = strip_draw(sheet.data, item->size, places.data, places_length, list.data,
                                  list_length);
     int is_drawn = strip_refusal(answer) == STRIP_OK;
-    show("draw", answer, places, is_drawn ? 2 * item->places : 0);
+    show_written("strip_draw", answer, places, is_drawn ? 2 * item->places : 0);
     check_kept(list, is_drawn ? 4 * item->list : 0);
-    if (strip_refusal(answer) != STRIP_NO_DRAWING) {
-        answer = strip_check(sheet.data, item->size, places.data, places_length, list.data,
-                             list_length);
-        printf("check %016llx\n", (unsigned long long)answer);
-    }
+    if (strip_refusal(answer) != STRIP_NO_DRAWING)
+        check(sheet, places, list);
     give_back(list);
     give_back(places);
     give_back(sheet);
 }
 
+/* Draws a sheet into slices that are too short, just long enough, and longer. */
+static void try_drawing(const struct item *item, const void *bytes) {
+    try_draw(item, bytes, -1, 0);
+    try_draw(item, bytes, 0, -1);
+    try_draw(item, bytes, 0, 0);
+    try_draw(item, bytes, 3, 5);
+}
+
 /* Checks places and a list in which every byte is the same. */
-static void try_check(const struct item *item, const void *bytes, int byte) {
-    struct block sheet = copy_of(bytes, item->size);
-    struct block places = take(2 * item->places), list = take(4 * item->list);
-    if (!undefined_fault) {
-        memset(places.data, byte, places.size);
-        memset(list.data, byte, list.size);
+static void try_check(const struct item *item, const void *bytes) {
+    static const int fillings[] = {0x00, 0x7f, 0x80, 0xff};
+    for (size_t i = 0; i < sizeof fillings / sizeof *fillings; i++) {
+        struct block sheet = copy_of(bytes, item->size);
+        struct block places = take(2 * item->places), list = take(4 * item->list);
+        if (!undefined_fault) {
+            memset(places.data, fillings[i], places.size);
+            memset(list.data, fillings[i], list.size);
+        }
+        check(sheet, places, list);
+        give_back(list);
+        give_back(places);
+        give_back(sheet);
     }
-    uint64_t answer =
-        strip_check(sheet.data, item->size, places.data, item->places, list.data, item->list);
-    printf("check %016llx\n", (unsigned long long)answer);
-    give_back(list);
-    give_back(places);
-    give_back(sheet);
 }
 
 /* Tells the minimum width of a sheet. */
 static void try_narrowest(const struct item *item, const void *bytes) {
     struct block sheet = copy_of(bytes, item->size);
-    uint64_t answer = strip_narrowest(sheet.data, item->size);
-    printf("narrowest %016llx\n", (unsigned long long)answer);
+    show("strip_narrowest", strip_narrowest(sheet.data, sheet.size));
     give_back(sheet);
 }
 
-/* Makes all calls for a sheet. */
-static void try_sheet(const struct item *item, const void *bytes) {
-    try_read("read", strip_read, item, bytes);
-    try_draw(item, bytes, -1, 0);
-    try_draw(item, bytes, 0, -1);
-    try_draw(item, bytes, 0, 0);
-    try_draw(item, bytes, 3, 5);
-    try_check(item, bytes, 0x00);
-    try_check(item, bytes, 0x7f);
-    try_check(item, bytes, 0x80);
-    try_check(item, bytes, 0xff);
-    try_narrowest(item, bytes);
+/* Reads a sheet. */
+static void try_read_sheet(const struct item *item, const void *bytes) {
+    try_read("strip_read", strip_read, item, bytes);
 }
+
+/* Writes a sheet. */
+static void try_write_sheet(const struct item *item, const void *bytes) {
+    try_write("strip_write", strip_write, item, bytes);
+}
+
+/* Reads a coordinate file. */
+static void try_read_drawing(const struct item *item, const void *bytes) {
+    try_read("strip_read_drawing", strip_read_drawing, item, bytes);
+}
+
+/* Writes a coordinate file. */
+static void try_write_drawing(const struct item *item, const void *bytes) {
+    try_write("strip_write_drawing", strip_write_drawing, item, bytes);
+}
+
+/* What is tried with the items of each kind, in this order. */
+static const struct {
+    uint32_t kind;
+    void (*run)(const struct item *item, const void *bytes);
+} trials[] = {
+    {SHEET, try_read_sheet},
+    {SHEET, try_drawing},
+    {SHEET, try_check},
+    {SHEET, try_narrowest},
+    {NUMBERS, try_write_sheet},
+    {COORDINATES, try_read_drawing},
+    {COORDINATE_NUMBERS, try_write_drawing},
+};
 
 /* Makes all calls for an item. */
 static void try_item(const struct item *item, const void *bytes) {
-    switch (item->kind) {
-    case SHEET:
-        try_sheet(item, bytes);
-        break;
-    case NUMBERS:
-        try_write("write", strip_write, item, bytes);
-        break;
-    case COORDINATES:
-        try_read("read_drawing", strip_read_drawing, item, bytes);
-        break;
-    case COORDINATE_NUMBERS:
-        try_write("write_drawing", strip_write_drawing, item, bytes);
-        break;
-    default:
-        fail("there is no such kind of item");
+    int count = 0;
+    for (size_t i = 0; i < sizeof trials / sizeof *trials; i++) {
+        if (trials[i].kind == item->kind) {
+            trials[i].run(item, bytes);
+            count++;
+        }
     }
+    if (count == 0)
+        fail("there is no such kind of item");
 }
 
 /* Takes every item from a file. */

@@ -35,36 +35,32 @@ static uint64_t answer;
 /* Reads the sheet. */
 static void call_read(void) {
     answer = strip_read(sheet, sheet_len, numbers, STRIP_MAX_NUMBERS);
+    assert(strip_refusal(answer) == STRIP_OK);
+    numbers_len = strip_value(answer);
 }
 
 /* Writes the numbers back. */
 static void call_write(void) {
     answer = strip_write(numbers, numbers_len, written, STRIP_MAX_SHEET_BYTES);
+    assert(answer == sheet_len);
 }
 
 /* Draws the sheet. */
 static void call_draw(void) {
     answer = strip_draw(sheet, sheet_len, places, STRIP_MAX_PLACES, list, STRIP_MAX_LIST);
+    assert(strip_refusal(answer) == STRIP_OK);
 }
 
 /* Checks the drawing. */
 static void call_check(void) {
     answer = strip_check(sheet, sheet_len, places, STRIP_MAX_PLACES, list, STRIP_MAX_LIST);
+    assert(answer == 1);
 }
 
 /* Tells the minimum width of the sheet. */
 static void call_narrowest(void) {
     answer = strip_narrowest(sheet, sheet_len);
-}
-
-/* Writes the coordinate file of the drawing. */
-static void call_write_drawing(void) {
-    answer = strip_write_drawing(drawing, drawing_len, file, STRIP_MAX_DRAWING_BYTES);
-}
-
-/* Reads the coordinate file. */
-static void call_read_drawing(void) {
-    answer = strip_read_drawing(file, file_len, drawing, STRIP_MAX_DRAWING_NUMBERS);
+    assert(strip_refusal(answer) == STRIP_OK);
 }
 
 /* Lists the numbers of the drawing's coordinate file: the count of layers, each with its places. */
@@ -81,6 +77,38 @@ static void list_drawing(void) {
         at += 2u * numbers[at] - 1;
     }
 }
+
+/* Writes the coordinate file of the drawing. */
+static void call_write_drawing(void) {
+    list_drawing();
+    answer = strip_write_drawing(drawing, drawing_len, file, STRIP_MAX_DRAWING_BYTES);
+    assert(strip_refusal(answer) == STRIP_OK);
+    file_len = strip_value(answer);
+}
+
+/* Reads the coordinate file. */
+static void call_read_drawing(void) {
+    answer = strip_read_drawing(file, file_len, drawing, STRIP_MAX_DRAWING_NUMBERS);
+    assert(answer == drawing_len);
+}
+
+/* All calls, in an order in which each finds what it takes; with the greatest use of the stack. */
+static struct {
+    const char *name;
+    void (*run)(void);
+    size_t greatest;
+} calls[] = {
+    {"strip_read", call_read, 0},
+    {"strip_write", call_write, 0},
+    {"strip_draw", call_draw, 0},
+    {"strip_check", call_check, 0},
+    {"strip_narrowest", call_narrowest, 0},
+    {"strip_write_drawing", call_write_drawing, 0},
+    {"strip_read_drawing", call_read_drawing, 0},
+};
+
+/* How many calls there are. */
+enum { CALLS = sizeof calls / sizeof *calls };
 
 /* How many bytes of stack a call uses. */
 static size_t use(void (*call)(void)) {
@@ -108,39 +136,16 @@ static void load(const char *path) {
     assert(ferror(stream) == 0 && fclose(stream) == 0);
 }
 
-/* Runs a call on a painted stack, and keeps the greatest use. Gives the value of the answer. */
-static uint32_t measure(void (*call)(void), size_t *greatest) {
-    size_t used = use(call);
-    assert(used <= STRIP_STACK_BYTES);
-    if (used > *greatest)
-        *greatest = used;
-    assert(strip_refusal(answer) == STRIP_OK);
-    return strip_value(answer);
-}
-
-/* Runs all seven functions on the sheet. */
+/* Runs all calls on the sheet. */
 static void *run_all(void *nothing) {
-    call_read();
-    assert(strip_refusal(answer) == STRIP_OK);
-    numbers_len = strip_value(answer);
-    call_write();
-    assert(answer == sheet_len);
-    call_draw();
-    assert(strip_refusal(answer) == STRIP_OK);
-    call_check();
-    assert(answer == 1);
-    call_narrowest();
-    assert(strip_refusal(answer) == STRIP_OK);
-    list_drawing();
-    call_write_drawing();
-    assert(strip_refusal(answer) == STRIP_OK);
-    file_len = strip_value(answer);
-    call_read_drawing();
-    assert(answer == drawing_len);
+    int i;
+
+    for (i = 0; i < CALLS; i++)
+        calls[i].run();
     return nothing;
 }
 
-/* Runs all seven functions on a thread whose stack is no larger than strip.h asks for. */
+/* Runs all calls on a thread whose stack is no larger than strip.h asks for. */
 static void run_on_thread(void) {
     pthread_attr_t attributes;
     pthread_t thread;
@@ -152,26 +157,28 @@ static void run_on_thread(void) {
     assert(pthread_attr_destroy(&attributes) == 0);
 }
 
+/* Runs each call on a painted stack, and keeps its greatest use. */
+static void measure(void) {
+    int i;
+
+    for (i = 0; i < CALLS; i++) {
+        size_t used = use(calls[i].run);
+        assert(used <= STRIP_STACK_BYTES);
+        if (used > calls[i].greatest)
+            calls[i].greatest = used;
+    }
+}
+
 /* Takes the paths of sheets that have drawings. */
 int main(int count, char **paths) {
-    size_t read = 0, write = 0, draw = 0, check = 0, narrowest = 0;
-    size_t read_drawing = 0, write_drawing = 0;
     int i;
 
     for (i = 1; i < count; i++) {
         load(paths[i]);
-        numbers_len = measure(call_read, &read);
-        assert(measure(call_write, &write) == sheet_len);
-        measure(call_draw, &draw);
-        assert(measure(call_check, &check) == 1);
-        measure(call_narrowest, &narrowest);
-        list_drawing();
-        file_len = measure(call_write_drawing, &write_drawing);
-        assert(measure(call_read_drawing, &read_drawing) == drawing_len);
+        measure();
         run_on_thread();
     }
-    printf("read %zu\nwrite %zu\ndraw %zu\ncheck %zu\n", read, write, draw, check);
-    printf("narrowest %zu\n", narrowest);
-    printf("read_drawing %zu\nwrite_drawing %zu\n", read_drawing, write_drawing);
+    for (i = 0; i < CALLS; i++)
+        printf("%s %zu\n", calls[i].name, calls[i].greatest);
     return 0;
 }

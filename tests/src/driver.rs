@@ -1,5 +1,5 @@
-//! What the driver `tests/c/damaged.c` is given, and what it prints: calls of the seven functions
-//! with slices of just the lengths that are needed, one element shorter, and longer.
+//! What the driver `tests/c/damaged.c` is given, and what it prints: calls of all functions with
+//! slices of just the lengths that are needed, one element shorter, and longer.
 
 mod files;
 mod items;
@@ -113,7 +113,7 @@ pub fn calls(item: &Item) -> Vec<String> {
     let mut lines = Vec::new();
     match item {
         Item::Sheet(bytes) => {
-            lines.extend(readings("read", read, bytes, needs.numbers));
+            lines.extend(readings("strip_read", read, bytes, needs.numbers));
             for (places, list) in MORE_DRAWN {
                 lines.extend(drawing(bytes, &needs, places, list));
             }
@@ -121,15 +121,15 @@ pub fn calls(item: &Item) -> Vec<String> {
             lines.push(narrowest(bytes));
         }
         Item::Numbers(numbers) => {
-            lines.extend(writings("write", write, numbers, needs.bytes));
+            lines.extend(writings("strip_write", write, numbers, needs.bytes));
         }
         Item::File(bytes) => {
             let read = coordinates::read;
-            lines.extend(readings("read_drawing", read, bytes, needs.numbers));
+            lines.extend(readings("strip_read_drawing", read, bytes, needs.numbers));
         }
         Item::Drawing(numbers) => {
             let write = coordinates::write;
-            lines.extend(writings("write_drawing", write, numbers, needs.bytes));
+            lines.extend(writings("strip_write_drawing", write, numbers, needs.bytes));
         }
     }
     lines
@@ -169,9 +169,9 @@ fn drawing(bytes: &[u8], needs: &Needs, more_places: isize, more_list: isize) ->
     let answer = draw(bytes, &mut places, &mut list);
     let checked = check(bytes, &places, &list);
     places.truncate(answer.map_or(0, |_| needs.places));
-    let mut lines = vec![shown("draw", answer, bytes_of(&places))];
+    let mut lines = vec![shown("strip_draw", answer, bytes_of(&places))];
     if !answer.is_err_and(|refusal| refusal.number == NO_DRAWING) {
-        lines.push(format!("check {:016x}", number(checked.map(u32::from))));
+        lines.push(checked_line(checked));
     }
     lines
 }
@@ -181,7 +181,12 @@ fn checking(bytes: &[u8], needs: &Needs, byte: u8) -> String {
     let places = vec![u16::from_le_bytes([byte; 2]); needs.places];
     let list = vec![i32::from_le_bytes([byte; 4]); needs.list];
     let answer = check(bytes, &places, &list);
-    format!("check {:016x}", number(answer.map(u32::from)))
+    checked_line(answer)
+}
+
+/// The line for what the checker says.
+fn checked_line(answer: Result<bool, Refusal>) -> String {
+    format!("strip_check {:016x}", number(answer.map(u32::from)))
 }
 
 /// The line for the minimum width of a sheet.
@@ -189,7 +194,7 @@ fn narrowest(bytes: &[u8]) -> String {
     let answer = minimum_width(bytes);
     let second = answer.map_or(0, |minimum| u64::from(minimum.width) << 48);
     let word = second + number(answer.map(|minimum| minimum.total));
-    format!("narrowest {word:016x}")
+    format!("strip_narrowest {word:016x}")
 }
 
 /// The line for an answer and the bytes of the elements written.

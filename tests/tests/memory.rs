@@ -1,20 +1,21 @@
-//! The seven functions touch no memory but the slices lent to them, and use no contents that nobody
-//! wrote: `tests/c/damaged.c` calls them on good and damaged sheets, coordinate files and lists, with
+//! The functions touch no memory but the slices lent to them, and use no contents that nobody wrote:
+//! `tests/c/damaged.c` calls them on good and damaged sheets, coordinate files and lists, with
 //! each slice in a block of exactly its size, under valgrind and between pages that nobody may touch.
 
 mod process;
 mod tools;
 
-use std::collections::BTreeSet;
+use std::collections::{BTreeMap, BTreeSet};
 use std::fs;
 use std::path::{Path, PathBuf};
 use std::process::{Command, Output, Stdio};
 use std::time::Duration;
 
 use process::run;
+use strip_tests::declare;
 use strip_tests::driver::{calls, items, Item};
 use strip_tests::files::GOOD;
-use tools::{compiler, folder, output, LIBRARY};
+use tools::{compiler, folder, header, output, LIBRARY};
 
 /// How long one run of the driver may take.
 const LIMIT: Duration = Duration::from_secs(120);
@@ -91,30 +92,40 @@ fn there_are_items_of_every_kind_and_size() {
     let items = items();
     assert!(items.len() > 1000, "{}", items.len());
     let lines: Vec<String> = items.iter().flat_map(calls).collect();
-    for number in 1..=8 {
-        let start = format!("draw {number:08x}");
-        let count = lines.iter().filter(|line| line.starts_with(&start)).count();
-        assert!(count > 0, "refusal {number}");
-    }
     let drawn = lines
         .iter()
-        .filter(|line| line.starts_with("draw 00000000"));
+        .filter(|line| line.starts_with("strip_draw 00000000"));
     assert!(drawn.count() > 300);
     let count = |line: &str| lines.iter().filter(|other| *other == line).count();
-    assert!(count("check 0000000000000001") > 300);
-    assert!(count("narrowest 0000000a00000000") > 50);
-    check_met(&lines, "read_drawing", &[0, 1, 2, 3, 4, 6, 7]);
-    check_met(&lines, "write_drawing", &[0, 1, 4, 6, 7]);
+    assert!(count("strip_check 0000000000000001") > 300);
+    assert!(count("strip_narrowest 0000000a00000000") > 50);
 }
 
-/// Checks that these refusals are among the answers of a function, and no other; 0 is none.
-fn check_met(lines: &[String], name: &str, numbers: &[u32]) {
-    let answers = lines
-        .iter()
-        .filter_map(|line| line.strip_prefix(name)?.strip_prefix(' '));
-    let number = |answer: &str| u32::from_str_radix(&answer[..8], 16).expect("a number");
-    let met: BTreeSet<u32> = answers.map(number).collect();
-    assert!(met.iter().eq(numbers), "{name}: {met:?}");
+#[test]
+fn every_function_meets_its_refusals_and_no_other() {
+    let mut met: BTreeMap<String, BTreeSet<u32>> = BTreeMap::new();
+    for line in items().iter().flat_map(calls) {
+        let (name, answer) = line.split_once(' ').expect("a name and an answer");
+        let number = u32::from_str_radix(&answer[4..8], 16).expect("a number");
+        met.entry(name.to_string()).or_default().insert(number);
+    }
+    let mut functions = header("functions");
+    functions.retain(|item| item["result"] == "u64"); // the others give no answer
+    let said = |item: &declare::Item| (item["name"].clone(), refusals(&item["Refusals "]));
+    assert_eq!(met, functions.iter().map(said).collect());
+}
+
+/// The numbers in a text such as `1 to 4, 6 and 7`, and 0.
+fn refusals(text: &str) -> BTreeSet<u32> {
+    let number = |text: &str| text.parse::<u32>().expect("a number");
+    let text = text.replace(" and ", ", ");
+    let ends = |part: &str| {
+        let (first, last) = part.split_once(" to ").unwrap_or((part, part));
+        number(first)..=number(last)
+    };
+    [0].into_iter()
+        .chain(text.split(", ").flat_map(ends))
+        .collect()
 }
 
 #[test]
