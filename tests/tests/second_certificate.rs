@@ -1,4 +1,5 @@
-//! Pull lists, against the rules of document 01 written out by hand, and brute force.
+//! Pull lists in the second implementation, against the rules of document 01 written out by hand, and
+//! brute force.
 
 use second::certificate::{floor, length, meets_rules};
 use second::drawing::{least_drawings, Sheet};

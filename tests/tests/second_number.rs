@@ -1,4 +1,5 @@
-//! Single numbers, against the examples of DWARF 5 and the refusals of document 01.
+//! Single numbers in the second implementation, against the examples of DWARF 5 and the refusals of
+//! document 01.
 
 use second::number::{read, write, Placed};
 use second::refusal::Refusal;

@@ -1,4 +1,5 @@
-//! Coordinate files, against the words of document 02 written out by hand.
+//! The second implementation's reader and writer of coordinate files, against the words of document 02
+//! written out by hand.
 
 mod common;
 

@@ -1,4 +1,5 @@
-//! Sheets, against the examples and limits of document 01 written out by hand.
+//! The second implementation's reader and writer of sheets, against the examples and limits of
+//! document 01 written out by hand.
 
 mod common;
 

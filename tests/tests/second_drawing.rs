@@ -1,4 +1,5 @@
-//! Drawings and totals, against the sheets of document 01 written out by hand, and brute force.
+//! The second implementation's drawings and totals, against the sheets of document 01 written out by
+//! hand, and brute force.
 
 use second::drawing::{
     drawings, is_drawing, least_drawings, leftmost, total, Edge, Layer, Separation, Sheet,

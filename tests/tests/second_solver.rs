@@ -1,4 +1,5 @@
-//! The drawings and lists found, against the checker, brute force and the cancelling of cycles.
+//! The drawings and lists that the second implementation finds, against its checker, brute force and
+//! the cancelling of cycles.
 
 use second::cancelling;
 use second::certificate::{floor, length};

@@ -1,4 +1,5 @@
-//! The engine: document 01's answers and refusals, and sheets that have a drawing.
+//! The second implementation's engine: document 01's answers and refusals, and sheets that have a
+//! drawing.
 
 use second::certificate;
 use second::checker::check;

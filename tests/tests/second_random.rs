@@ -1,4 +1,5 @@
-//! Many sheets: random good ones, damaged ones, and the fullest ones.
+//! The second implementation's reader and writer on many sheets: random good ones, damaged ones, and
+//! the fullest ones.
 
 mod common;
 

@@ -1,4 +1,5 @@
-//! Traces, against document 02's ticket 4 written out by hand, and word for word on random sheets.
+//! Traces in the second implementation, against document 02's ticket 4 written out by hand, and word
+//! for word on random sheets.
 
 use second::drawing::{Edge, Sheet};
 use second::sheet::{PLAIN, STRAIGHT};

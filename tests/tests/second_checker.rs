@@ -1,4 +1,5 @@
-//! The checker, against the examples of document 01 written out by hand, and brute force.
+//! The second implementation's checker, against the examples of document 01 written out by hand, and
+//! brute force.
 
 use second::checker::check;
 use second::drawing::{drawings, least_drawings};
