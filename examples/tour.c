@@ -1,5 +1,5 @@
 /*
- * All seven functions: reads a sheet, tells its minimum width, writes it with another width, draws
+ * Every function: reads a sheet, tells its minimum width, writes it with another width, draws
  * that, has the drawing checked, makes a coordinate file of it, and reads that. It prints the
  * minimum width with the least total there, the total, what the checker says, and then how long the
  * coordinate file is.

@@ -6,7 +6,7 @@ mod tools;
 use std::fs;
 use std::process::Command;
 
-use tools::{compiler, folder, numbers, output, python, root, HEADER, LIBRARY};
+use tools::{compiler, folder, functions, numbers, output, python, root, HEADER, LIBRARY};
 
 #[test]
 fn calls_from_c_are_answered() {
@@ -67,6 +67,22 @@ fn refusals_of_the_header_are_those_that_the_crates_give() {
         .collect();
     assert_eq!(numbers("refusals"), given);
     assert!(given.len() >= 9 && given.iter().all(|&(_, number)| number != 9));
+}
+
+#[test]
+fn every_function_is_called_and_has_its_wrappers() {
+    for (file, start) in [
+        ("examples/tour.c", "strip_"),
+        ("tests/c/calls.c", "strip_"),
+        ("bindings/rust/src/lib.rs", "pub fn "),
+        ("bindings/python/strip.py", "def "),
+    ] {
+        let text = fs::read_to_string(root().join(file)).expect(file);
+        for name in functions() {
+            let name = name.trim_start_matches("strip_");
+            assert!(text.contains(&format!("{start}{name}(")), "{file}: {name}");
+        }
+    }
 }
 
 /// What Python prints, with the module at hand.
