@@ -44,8 +44,8 @@ MAX_NUMBERS = 2559
 MAX_PLACES = 256
 # The greatest count of numbers in a list: one for each edge and two for each node.
 MAX_LIST = 1024
-# The greatest count of numbers in the list of a coordinate file: the count of layers, one for each
-# layer and one for each node.
+# The greatest count of numbers in the list of a coordinate file: the count of layers, one for
+# each layer and one for each node.
 MAX_DRAWING_NUMBERS = 321
 # No coordinate file has more bytes.
 MAX_DRAWING_BYTES = 645
@@ -68,8 +68,8 @@ OUTSIDE_LIMITS = 4
 # A maximum separation is set and is below its minimum separation. The offset is that of the
 # maximum's first byte.
 SEPARATIONS_CROSSED = 5
-# Something follows the last edge of a sheet, or the last node of a coordinate file. The offset
-# is that of the first byte too many.
+# Something follows the last edge of a sheet, or the last node of a coordinate file. The
+# offset is that of the first byte too many.
 SOMETHING_FOLLOWS = 6
 # A slice is too short for what is to be read or written there. The offset is 0.
 SLICE_SHORT = 7

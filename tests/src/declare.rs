@@ -86,7 +86,7 @@ pub fn parse(text: &str) -> Result<BTreeMap<&'static str, Vec<Item>>, String> {
     let mut header: BTreeMap<_, Vec<Item>> = BTreeMap::new();
     for part in text.split("/*") {
         let (comment, code) = part.split_once("*/").unwrap_or(("", part));
-        let code = code.lines().filter(|line| is_declaration(line));
+        let code = code.lines().filter(is_declaration);
         let code: Vec<&str> = code.flat_map(str::split_whitespace).collect();
         let code = code.join(" ");
         let found = declaration(&code).ok_or(format!("{HEADER}: cannot be read: {code}"));

@@ -79,7 +79,7 @@ fn what_cannot_be_read_is_told() {
         "uint64_t strip_read(const uint8_t *sheet);",
         "uint64_t strip_read(const uint8_t *sheet, size_t length);",
         "uint64_t strip_read(const uint8_t *sheet, uint32_t sheet_len);",
-        "uint64_t strip_read(const uint8_t *sheet, uint8_t *file, size_t sheet_len, size_t file_len);",
+        "uint64_t strip_read(uint8_t *sheet, uint8_t *file, size_t sheet_len, size_t file_len);",
         "uint64_t strip_read(const uint8_t sheet[], size_t sheet_len);",
         "uint64_t strip_read(const uint8_t **sheet, size_t sheet_len);",
         "uint64_t strip_read(double zoom);",
@@ -103,7 +103,10 @@ fn what_cannot_be_read_is_told() {
     ] {
         let error = parse(&format!("/* What it does. */\n{code}\n"));
         let error = error.map(|_| code).expect_err("it is read");
-        let line = code.replace("enum {\n", "").replace("\n};", "").replace('\n', " ");
+        let line = code
+            .replace("enum {\n", "")
+            .replace("\n};", "")
+            .replace('\n', " ");
         assert_eq!(error, format!("{HEADER}: cannot be read: {line}"));
     }
     assert!(parse("/* What it does.\nuint64_t strip_read(void);\n").is_err());

@@ -96,9 +96,10 @@ fn there_are_items_of_every_kind_and_size() {
         .iter()
         .filter(|line| line.starts_with("strip_draw 00000000"));
     assert!(drawn.count() > 300);
-    let count = |line: &str| lines.iter().filter(|other| *other == line).count();
+    let count = |end: &str| lines.iter().filter(|line| line.ends_with(end)).count();
     assert!(count("strip_check 0000000000000001") > 300);
-    assert!(count("strip_narrowest 0000000a00000000") > 50);
+    // no width has a drawing
+    assert!(count(" 0000000a00000000") > 50);
 }
 
 #[test]

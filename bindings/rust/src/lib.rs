@@ -29,8 +29,8 @@ pub const MAX_NUMBERS: usize = 2559;
 pub const MAX_PLACES: usize = 256;
 /// The greatest count of numbers in a list: one for each edge and two for each node.
 pub const MAX_LIST: usize = 1024;
-/// The greatest count of numbers in the list of a coordinate file: the count of layers, one for each
-/// layer and one for each node.
+/// The greatest count of numbers in the list of a coordinate file: the count of layers, one for
+/// each layer and one for each node.
 pub const MAX_DRAWING_NUMBERS: usize = 321;
 /// No coordinate file has more bytes.
 pub const MAX_DRAWING_BYTES: usize = 645;
@@ -64,8 +64,8 @@ impl Refusal {
     /// A maximum separation is set and is below its minimum separation. The offset is that of the
     /// maximum's first byte.
     pub const SEPARATIONS_CROSSED: u32 = 5;
-    /// Something follows the last edge of a sheet, or the last node of a coordinate file. The offset
-    /// is that of the first byte too many.
+    /// Something follows the last edge of a sheet, or the last node of a coordinate file. The
+    /// offset is that of the first byte too many.
     pub const SOMETHING_FOLLOWS: u32 = 6;
     /// A slice is too short for what is to be read or written there. The offset is 0.
     pub const SLICE_SHORT: u32 = 7;

@@ -42,8 +42,8 @@ extern "C" {
 #define STRIP_MAX_PLACES 256
 /* The greatest count of numbers in a list: one for each edge and two for each node. */
 #define STRIP_MAX_LIST 1024
-/* The greatest count of numbers in the list of a coordinate file: the count of layers, one for each
- * layer and one for each node. */
+/* The greatest count of numbers in the list of a coordinate file: the count of layers, one for
+ * each layer and one for each node. */
 #define STRIP_MAX_DRAWING_NUMBERS 321
 /* No coordinate file has more bytes. */
 #define STRIP_MAX_DRAWING_BYTES 645
@@ -68,8 +68,8 @@ enum {
     /* A maximum separation is set and is below its minimum separation. The offset is that of the
      * maximum's first byte. */
     STRIP_SEPARATIONS_CROSSED = 5,
-    /* Something follows the last edge of a sheet, or the last node of a coordinate file. The offset
-     * is that of the first byte too many. */
+    /* Something follows the last edge of a sheet, or the last node of a coordinate file. The
+     * offset is that of the first byte too many. */
     STRIP_SOMETHING_FOLLOWS = 6,
     /* A slice is too short for what is to be read or written there. The offset is 0. */
     STRIP_SLICE_SHORT = 7,
