@@ -1,4 +1,4 @@
-// The library for other languages: the seven calls under C names, each with its answer in one word. Nothing but the lent
+// The library for other languages: calls under C names, each with its answer in one word. Nothing but the lent
 // slices is written.
 mod words;
 
