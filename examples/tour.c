@@ -49,6 +49,11 @@ int main(int argc, char **argv) {
         fprintf(stderr, "usage: tour FILE WIDTH\n");
         return 2;
     }
+    /* A library of the same MAJOR and MINOR answers as the header says. */
+    if (strip_version() >> 8 != (STRIP_VERSION_MAJOR << 8 | STRIP_VERSION_MINOR)) {
+        fprintf(stderr, "tour: the library has another version than strip.h, " STRIP_VERSION "\n");
+        return 2;
+    }
     file = fopen(argv[1], "rb");
     length = file == NULL ? 0 : fread(bytes, 1, sizeof bytes, file);
     if (file == NULL || ferror(file)) {

@@ -33,7 +33,7 @@ import os
 from array import array
 from typing import Iterable, List, NamedTuple, Tuple
 
-__version__ = "0.1.0"
+__version__ = "0.6.0"
 
 # generated from strip.h, constants: begin
 # No sheet has more bytes.
@@ -201,8 +201,19 @@ _FUNCTIONS = {
     "strip_narrowest": [ctypes.c_uint64, *_slice(ctypes.c_uint8)],
     "strip_read_drawing": [ctypes.c_uint64, *_slice(ctypes.c_uint8), *_slice(ctypes.c_uint16)],
     "strip_write_drawing": [ctypes.c_uint64, *_slice(ctypes.c_uint16), *_slice(ctypes.c_uint8)],
+    "strip_version": [ctypes.c_uint32],
     # generated from strip.h, functions: end
 }
+
+
+def version() -> Tuple[int, int, int]:
+    """The version of the shared library: MAJOR, MINOR and PATCH."""
+    return _parts(_library().strip_version())
+
+
+def _parts(number: int) -> Tuple[int, int, int]:
+    """The parts of a version that is told in one number."""
+    return number >> 16, number >> 8 & 0xFF, number & 0xFF
 
 
 def _bytes(source: bytes) -> ctypes.Array:
@@ -240,10 +251,15 @@ def _answer(name: str, *slices: ctypes.Array) -> Tuple[int, int]:
 
 @functools.lru_cache(maxsize=None)
 def _library() -> ctypes.CDLL:
-    """The shared library with the types of its functions."""
+    """The shared library with the types of its functions. One of another MAJOR or MINOR raises ImportError."""
     built = os.path.join(os.path.dirname(os.path.abspath(__file__)), "../../target/lib/libstrip.so.0")
     installed = "libstrip.so.0"
-    library = ctypes.CDLL(os.environ.get("STRIP_LIBRARY") or (built if os.path.exists(built) else installed))
+    path = os.environ.get("STRIP_LIBRARY") or (built if os.path.exists(built) else installed)
+    library = ctypes.CDLL(path)
+    # a library without this function is older than every version of it
+    told = _parts(library.strip_version()) if hasattr(library, "strip_version") else (0, 0, 0)
+    if told[:2] != tuple(map(int, __version__.split(".")[:2])):
+        raise ImportError(f"{path} has version {'.'.join(map(str, told))}, and strip.py is {__version__}")
     for name, (result, *parameters) in _FUNCTIONS.items():
         function = getattr(library, name)
         function.restype, function.argtypes = result, parameters

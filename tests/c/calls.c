@@ -434,8 +434,18 @@ static void threads(void) {
         assert(pthread_join(thread[i], NULL) == 0);
 }
 
+/* The version of the library is that of the header. */
+static void version(void) {
+    uint32_t told = strip_version();
+
+    assert(told >> 16 == STRIP_VERSION_MAJOR);
+    assert((told >> 8 & 0xFF) == STRIP_VERSION_MINOR);
+    assert((told & 0xFF) == STRIP_VERSION_PATCH);
+}
+
 /* Runs all of it, and says so. */
 int main(void) {
+    version();
     answers();
     parallel_edges();
     narrowest();

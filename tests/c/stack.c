@@ -92,6 +92,11 @@ static void call_read_drawing(void) {
     assert(answer == drawing_len);
 }
 
+/* Tells the version. */
+static void call_version(void) {
+    assert(strip_version() > 0);
+}
+
 /* All calls, in an order in which each finds what it takes; with the greatest use of the stack. */
 static struct {
     const char *name;
@@ -105,6 +110,7 @@ static struct {
     {"strip_narrowest", call_narrowest, 0},
     {"strip_write_drawing", call_write_drawing, 0},
     {"strip_read_drawing", call_read_drawing, 0},
+    {"strip_version", call_version, 0},
 };
 
 /* How many calls there are. */

@@ -6,7 +6,10 @@ mod tools;
 use std::fs;
 use std::process::Command;
 
-use tools::{compiler, folder, functions, numbers, output, python, root, HEADER, LIBRARY};
+use tools::{
+    compiler, folder, functions, numbers, output, python, root, run_in, shared_library, HEADER,
+    LIBRARY,
+};
 
 #[test]
 fn calls_from_c_are_answered() {
@@ -101,6 +104,39 @@ fn python_module_has_the_numbers_of_the_header() {
 }
 
 #[test]
+fn python_refuses_a_library_of_other_rules() {
+    let folder = folder("other-rules");
+    let source = folder.join("other.c");
+    for (code, told) in [
+        ("unsigned strip_version(void) { return 0x500; }", "0.5.0"),
+        ("int nothing;", "0.0.0"),
+    ] {
+        fs::write(&source, code).expect("a source can be written");
+        let library = folder.join(format!("{told}.so"));
+        let mut compiler = Command::new("gcc");
+        compiler.args(["-shared", "-fPIC", "-o"]).arg(&library);
+        output(compiler.arg(&source));
+        let mut python = python();
+        python.env("STRIP_LIBRARY", &library);
+        let failed = run_in(
+            &root(),
+            python.args(["-c", "import strip\nstrip.version()"]),
+        );
+        assert!(!failed.status.success());
+        let said = String::from_utf8_lossy(&failed.stderr);
+        let library = library.display();
+        let line = format!(
+            "{library} has version {told}, and strip.py is {}",
+            strip::VERSION
+        );
+        assert_eq!(
+            said.lines().last(),
+            Some(format!("ImportError: {line}").as_str())
+        );
+    }
+}
+
+#[test]
 fn version_is_the_same_everywhere() {
     let header = fs::read_to_string(root().join(HEADER)).expect("the header");
     let part = |name: &str| {
@@ -113,7 +149,15 @@ fn version_is_the_same_everywhere() {
     assert!(header.contains(&text), "{text}");
     assert_eq!(strip::VERSION, version);
     assert_eq!(
-        told_by_python("print(strip.__version__)"),
-        format!("{version}\n")
+        strip::version().map(|part| part.to_string()).join("."),
+        version
     );
+    shared_library();
+    assert_eq!(
+        told_by_python("print(strip.__version__, *strip.version())"),
+        format!("{version} {}\n", version.replace('.', " "))
+    );
+    let changelog = fs::read_to_string(root().join("CHANGELOG.md")).expect("the changelog");
+    let newest = changelog.lines().find_map(|line| line.strip_prefix("## "));
+    assert!(newest.is_some_and(|line| line.starts_with(&format!("{version}, "))));
 }

@@ -18,7 +18,7 @@
 use std::error::Error;
 use std::fmt;
 
-/// The version of the library.
+/// The version of this wrapper. A library of another MAJOR or MINOR gives no answer.
 pub const VERSION: &str = env!("CARGO_PKG_VERSION");
 // generated from strip.h, constants: begin
 /// No sheet has more bytes.
@@ -140,6 +140,7 @@ mod raw {
             file: *mut u8,
             file_len: usize,
         ) -> u64;
+        pub fn strip_version() -> u32;
         // generated from strip.h, functions: end
     }
 }
@@ -308,8 +309,30 @@ pub fn write_drawing(numbers: &[u16], file: &mut [u8]) -> Result<usize, Refusal>
     value(answer).map(|count| count as usize)
 }
 
+/// The version of the library that is linked: MAJOR, MINOR and PATCH.
+pub fn version() -> [u32; 3] {
+    // SAFETY: the function takes nothing.
+    let version = unsafe { raw::strip_version() };
+    [version >> 16, version >> 8 & 0xFF, version & 0xFF]
+}
+
+/// What is wrong with a library of this version, if something is: only the same MAJOR and MINOR
+/// answer as this wrapper says.
+fn mismatch([major, minor, patch]: [u32; 3]) -> Option<String> {
+    let same = VERSION.starts_with(&format!("{major}.{minor}."));
+    let library = format!("{major}.{minor}.{patch}");
+    (!same).then(|| format!("strip {VERSION} is linked with a library of version {library}"))
+}
+
 /// The value of an answer, or the refusal.
+///
+/// # Panics
+///
+/// If the library has another MAJOR or MINOR.
 fn value(answer: u64) -> Result<u32, Refusal> {
+    if let Some(line) = mismatch(version()) {
+        panic!("{line}");
+    }
     let (number, value) = (u32::from((answer >> 32) as u16), answer as u32);
     match number {
         0 => Ok(value),
@@ -317,5 +340,20 @@ fn value(answer: u64) -> Result<u32, Refusal> {
             number,
             offset: value,
         }),
+    }
+}
+
+#[cfg(test)]
+mod tests {
+    use super::{mismatch, version, VERSION};
+
+    #[test]
+    fn a_library_of_other_rules_is_refused() {
+        let [major, minor, patch] = version();
+        assert_eq!(VERSION, format!("{major}.{minor}.{patch}"));
+        assert_eq!(mismatch([major, minor, patch + 1]), None);
+        let line = format!("strip {VERSION} is linked with a library of version {major}.99.0");
+        assert_eq!(mismatch([major, 99, 0]), Some(line));
+        assert!(mismatch([major + 1, minor, patch]).is_some());
     }
 }

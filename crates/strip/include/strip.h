@@ -28,10 +28,11 @@
 extern "C" {
 #endif
 
-/* The version of the library, as text and in its parts. */
-#define STRIP_VERSION "0.1.0"
+/* The version that this header belongs to, as text and in its parts. Libraries of the same MAJOR
+ * and MINOR give the same answers. */
+#define STRIP_VERSION "0.6.0"
 #define STRIP_VERSION_MAJOR 0
-#define STRIP_VERSION_MINOR 1
+#define STRIP_VERSION_MINOR 6
 #define STRIP_VERSION_PATCH 0
 
 /* No sheet has more bytes. */
@@ -121,6 +122,10 @@ uint64_t strip_read_drawing(const uint8_t *file, size_t file_len,
  * bytes. Refusals 1, 4, 6 and 7. STRIP_MAX_DRAWING_BYTES elements are enough for every file. */
 uint64_t strip_write_drawing(const uint16_t *numbers, size_t numbers_len,
                              uint8_t *file, size_t file_len);
+
+/* Tells the version of the library that is linked or loaded. The value is MAJOR * 65536 + MINOR * 256
+ * + PATCH; it is no answer. */
+uint32_t strip_version(void);
 
 /* The number of the refusal in an answer; 0 where the call succeeded. */
 static inline uint32_t strip_refusal(uint64_t answer) {

@@ -1,3 +1,4 @@
 pub mod Words
 pub mod HeldWords
+pub mod Version
 pub mod laws

@@ -1,7 +1,11 @@
-// The library for other languages: calls under C names, each with its answer in one word. Nothing but the lent
-// slices is written.
+// The library for other languages: calls under C names, each with its answer in one word, and its version. Nothing but the lent slices
+// is written.
+mod version;
 mod words;
 
+use crate::version::MAJOR;
+use crate::version::MINOR;
+use crate::version::PATCH;
 use crate::words::answer_word;
 use crate::words::drawing_word;
 use crate::words::minimum_word;
@@ -11,6 +15,7 @@ ghost use lib.ListN.{length};
 ghost use Rattle.leb128.specs.Format.{answered, filled};
 ghost use Rattle.sheet.specs.Reading.{«read-sheet», «write-sheet», «read-coordinates», «write-coordinates»};
 ghost use Rattle.checker.specs.Verdict.{«check-answer»};
+ghost use Rattle.strip.specs.Version.{version};
 ghost use Rattle.strip.specs.Words.{«outcome-word», «judgement-word», DrawsWord, NarrowsWord};
 
 // Reads a sheet's bytes into the front of the numbers.
@@ -72,4 +77,12 @@ pub extern "C" fn strip_write_drawing(numbers: &[u16], file: &mut [u8]) -> u64
     ensures slice { λ r. ⌜ now (file .exit) ≡ filled (write-coordinates (now (numbers .entry))) (now (file .entry)) ⌝ }
 {
     answer_word(sheet::write_coordinates(numbers, file))
+}
+
+// Tells the version of the library in one number: MAJOR · 2^16 + MINOR · 2^8 + PATCH.
+#[no_mangle]
+pub extern "C" fn strip_version() -> u32
+    ensures { λ r. ⌜ r ≡ version ⌝ }
+{
+    MAJOR * 65536 + MINOR * 256 + PATCH
 }
