@@ -36,7 +36,7 @@ lib: $(SHARED)
 $(STATIC): FORCE
 	$(RT) staticlib strip
 
-# The archive is position independent and needs nothing but memset.
+# The archive is position independent and needs nothing but memcpy and memset.
 $(SHARED): $(STATIC) crates/strip/exports.map Makefile
 	mkdir -p $(@D)
 	$(CC) -shared -o $@ -Wl,-soname,$(@F) -Wl,--version-script=crates/strip/exports.map \

@@ -1,8 +1,9 @@
-//! The header: a C program that calls every function, every language standard, the numbers that the
-//! crates give, and those of the Python module.
+//! The header: a C program that calls every function, every language standard, what the library needs
+//! of others, the numbers that the crates give, and those of the Python module.
 
 mod tools;
 
+use std::collections::BTreeSet;
 use std::fs;
 use std::process::Command;
 
@@ -39,6 +40,56 @@ fn header_is_clean_in_every_standard() {
                 output(command.args(file));
             }
         }
+    }
+}
+
+/// The names of an archive that nm lists with this flag, in alphabetical order.
+fn symbols(flag: &str) -> BTreeSet<String> {
+    let listed = output(Command::new("nm").args([flag, "--format=posix", LIBRARY[1]]));
+    let lines = listed.lines().filter(|line| !line.ends_with(':'));
+    let names = lines.filter_map(|line| line.split(' ').next());
+    names
+        .filter(|name| !name.is_empty())
+        .map(str::to_owned)
+        .collect()
+}
+
+#[test]
+fn library_needs_what_the_header_the_page_and_the_makefile_say() {
+    let defined = symbols("--defined-only");
+    assert!(functions().iter().all(|name| defined.contains(name)));
+    let needed = &symbols("--undefined-only") - &defined;
+    let needed: Vec<&str> = needed.iter().map(String::as_str).collect();
+    let plain = needed.join(" and ");
+    let quoted = format!("`{}`", needed.join("` and `"));
+    for (file, sentence) in [
+        (HEADER, format!(" They need {plain} of the C library, ")),
+        (
+            "docs/LIBRARY.md",
+            format!(" Of the C library they need {quoted}, and nothing else"),
+        ),
+        ("Makefile", format!(" needs nothing but {plain}.")),
+    ] {
+        let text = fs::read_to_string(root().join(file)).expect(file);
+        let text = text.replace("\n *", "").replace('\n', " ");
+        assert!(text.contains(&sentence), "{file}: {sentence}");
+    }
+}
+
+#[test]
+fn a_program_without_the_c_library_draws() {
+    for name in ["gcc", "clang"] {
+        let program = folder(&format!("freestanding-{name}")).join("freestanding");
+        let mut compiler = compiler(name, "c99");
+        compiler.args([
+            "-ffreestanding",
+            "-nostdlib",
+            "-static",
+            "-fno-stack-protector",
+        ]);
+        compiler.arg("tests/c/freestanding.c").args(LIBRARY);
+        output(compiler.arg("-o").arg(&program));
+        assert_eq!(output(&mut Command::new(program)), "total 1, checked\n");
     }
 }
 

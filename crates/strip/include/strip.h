@@ -15,8 +15,8 @@
  * that every input is allowed.
  *
  * The functions allocate nothing, have no state, set no errno, and do no input or output. They can
- * be called from any thread, also from several at once. They need memset of the C library, and
- * STRIP_STACK_BYTES of stack.
+ * be called from any thread, also from several at once. They need memcpy and memset of the C
+ * library, and STRIP_STACK_BYTES of stack.
  */
 #ifndef STRIP_H
 #define STRIP_H
