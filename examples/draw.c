@@ -50,9 +50,10 @@ int main(int argc, char **argv) {
         perror(argv[1]);
         return 2;
     }
-    answer = strip_draw(sheet, (size_t)length, places, STRIP_MAX_PLACES, list, STRIP_MAX_LIST);
+    answer = strip_read(sheet, (size_t)length, numbers, STRIP_MAX_NUMBERS);
+    if (strip_refusal(answer) == STRIP_OK)
+        answer = strip_draw(sheet, (size_t)length, places, STRIP_MAX_PLACES, list, STRIP_MAX_LIST);
     if (strip_refusal(answer) == STRIP_OK) {
-        strip_read(sheet, (size_t)length, numbers, STRIP_MAX_NUMBERS);
         printf("total %lu\n", (unsigned long)strip_value(answer));
         print_nodes(numbers, places);
     } else {

@@ -17,10 +17,7 @@ std::vector<std::uint8_t> contents(std::ifstream &file) {
 }
 
 // Prints the total, then layer, position and place of each node.
-void print(const std::vector<std::uint8_t> &sheet, std::uint32_t total,
-           const std::uint16_t *place) {
-    std::array<std::uint16_t, STRIP_MAX_NUMBERS> numbers;
-    strip_read(sheet.data(), sheet.size(), numbers.data(), numbers.size());
+void print(const std::uint16_t *numbers, std::uint32_t total, const std::uint16_t *place) {
     std::cout << "total " << total << '\n';
     std::size_t at = 2;
     for (int layer = 1; layer <= numbers[1]; layer++) {
@@ -41,13 +38,16 @@ int main(int argc, char **argv) {
         std::cerr << "draw: cannot read " << argv[1] << '\n';
         return 2;
     }
+    std::array<std::uint16_t, STRIP_MAX_NUMBERS> numbers;
     std::array<std::uint16_t, STRIP_MAX_PLACES> places;
     std::array<std::int32_t, STRIP_MAX_LIST> list;
-    const auto answer = strip_draw(sheet.data(), sheet.size(), places.data(), places.size(),
-                                   list.data(), list.size());
+    auto answer = strip_read(sheet.data(), sheet.size(), numbers.data(), numbers.size());
+    if (strip_refusal(answer) == STRIP_OK)
+        answer = strip_draw(sheet.data(), sheet.size(), places.data(), places.size(), list.data(),
+                            list.size());
     const bool drawn = strip_refusal(answer) == STRIP_OK;
     if (drawn)
-        print(sheet, strip_value(answer), places.data());
+        print(numbers.data(), strip_value(answer), places.data());
     else
         std::cout << "refused " << strip_refusal(answer) << " at " << strip_value(answer) << '\n';
     if (!std::cout.flush()) {

@@ -99,9 +99,12 @@ pub fn parse(text: &str) -> Result<BTreeMap<&'static str, Vec<Item>>, String> {
 
 /// Whether a line belongs to a declaration that other files repeat.
 fn is_declaration(line: &&str) -> bool {
-    let starts = ["#if", "#include", "#endif", "#define STRIP_VERSION"];
+    let starts = ["#if", "#el", "#endif", "#include"];
+    let macros = ["#define STRIP_VERSION", "#define STRIP_NODISCARD"];
     let lines = ["#define STRIP_H", "extern \"C\" {", "enum {", "};", "}"];
-    !lines.contains(line) && !starts.iter().any(|start| line.starts_with(start))
+    let is_other = lines.contains(line) || *line == "STRIP_NODISCARD";
+    let mut starts = starts.iter().chain(&macros);
+    !is_other && !starts.any(|start| line.starts_with(start))
 }
 
 /// A comment, and what it says behind certain words, each up to the end of the sentence.

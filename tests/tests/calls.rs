@@ -8,8 +8,8 @@ use std::fs;
 use std::process::Command;
 
 use tools::{
-    compiler, folder, functions, numbers, output, python, root, run_in, shared_library, HEADER,
-    LIBRARY,
+    compiler, folder, functions, header, numbers, output, python, root, run_in, shared_library,
+    HEADER, LIBRARY,
 };
 
 #[test]
@@ -36,10 +36,53 @@ fn header_is_clean_in_every_standard() {
             for standard in standards {
                 let mut command = compiler(name, standard);
                 command.args(["-Wconversion", "-Wshadow", "-Wundef", "-fsyntax-only"]);
+                if language == "c++" {
+                    command.arg("-Wold-style-cast");
+                }
                 let file = ["-include", HEADER, "-x", language, "/dev/null"];
                 output(command.args(file));
             }
         }
+    }
+}
+
+/// A program that looks at no answer: each function is called with zeros, on a line of its own.
+fn looking_at_no_answer() -> (String, usize) {
+    let mut answering = header("functions");
+    answering.retain(|item| item["result"] == "u64");
+    let mut text =
+        String::from("#include <strip.h>\nvoid call_all(void);\nvoid call_all(void) {\n");
+    for item in &answering {
+        let zeros = vec!["0"; item["rust"].split(", ").count()].join(", ");
+        text += &format!("    {}({zeros});\n", item["name"]);
+    }
+    (text + "}\n", answering.len())
+}
+
+#[test]
+fn an_answer_that_nobody_looks_at_is_warned_of() {
+    let folder = folder("calls-ignored");
+    let (source, object) = (folder.join("ignored.c"), folder.join("ignored.o"));
+    let (text, count) = looking_at_no_answer();
+    fs::write(&source, text).expect("a program can be written");
+    for (name, language, standard) in [
+        ("gcc", "c", "c99"),
+        ("clang", "c", "c99"),
+        ("gcc", "c", "c2x"),
+        ("clang", "c", "c2x"),
+        ("g++", "c++", "c++11"),
+        ("clang++", "c++", "c++11"),
+        ("g++", "c++", "c++17"),
+        ("clang++", "c++", "c++17"),
+    ] {
+        let mut compiler = compiler(name, standard);
+        compiler.args(["-Wno-error", LIBRARY[0], "-x", language, "-c"]);
+        compiler.arg(&source).arg("-o").arg(&object);
+        let output = run_in(&root(), &mut compiler);
+        let said = String::from_utf8_lossy(&output.stderr);
+        assert!(output.status.success(), "{name} {standard}: {said}");
+        let warned = said.matches("[-Wunused-result]").count();
+        assert_eq!(warned, count, "{name} {standard}: {said}");
     }
 }
 

@@ -47,6 +47,22 @@ fn a_function_of_nothing_is_read() {
 }
 
 #[test]
+fn what_asks_for_a_look_at_the_answer_is_passed_over() {
+    let text = "/* Asks. */
+#if defined(__GNUC__)
+#define STRIP_NODISCARD __attribute__((warn_unused_result))
+#else
+#define STRIP_NODISCARD
+#endif
+
+/* Reads nothing. The value is 0. Refusals 1. */
+STRIP_NODISCARD
+uint64_t strip_read(void);\n";
+    let expected = ["strip_read", "", "u64"];
+    assert_eq!(known(text, ["name", "rust", "result"]), expected);
+}
+
+#[test]
 fn numbers_and_slices_of_all_kinds_are_read() {
     let text = "/* Tells one outline.\n * The value is the count of\n * points. Refusals 1 to 7. */
 uint64_t strip_shape(const uint8_t *sheet, size_t sheet_len, float zoom,
@@ -91,6 +107,7 @@ fn what_cannot_be_read_is_told() {
         "uint64_t read(void);",
         "extern uint64_t strip_read(void);",
         "uint64_t strip_read(void); uint64_t strip_write(void);",
+        "STRIP_NODISCARD uint64_t strip_read(void);",
         "typedef uint64_t strip_answer;",
         "struct strip_answer { uint32_t value; };",
         "static inline uint32_t strip_one(void) { return 1; } uint64_t strip_read(void);",

@@ -28,6 +28,17 @@
 extern "C" {
 #endif
 
+/* Stands before a function whose answer is to be looked at: the compiler warns where it is not. */
+#if defined(__cplusplus) && __cplusplus >= 201703L
+#define STRIP_NODISCARD [[nodiscard]]
+#elif defined(__STDC_VERSION__) && __STDC_VERSION__ >= 202311L
+#define STRIP_NODISCARD [[nodiscard]]
+#elif defined(__GNUC__)
+#define STRIP_NODISCARD __attribute__((warn_unused_result))
+#else
+#define STRIP_NODISCARD
+#endif
+
 /* The version that this header belongs to, as text and in its parts. Libraries of the same MAJOR
  * and MINOR give the same answers. */
 #define STRIP_VERSION "0.6.0"
@@ -82,11 +93,13 @@ enum {
 
 /* Reads the number list of a sheet into the front of numbers. The value is the count of numbers.
  * Refusals 1 to 7. STRIP_MAX_NUMBERS elements are enough for every sheet. */
+STRIP_NODISCARD
 uint64_t strip_read(const uint8_t *sheet, size_t sheet_len,
                     uint16_t *numbers, size_t numbers_len);
 
 /* Writes the sheet of a number list into the front of sheet. The value is the count of bytes.
  * Refusals 1, 4, 5, 6 and 7. STRIP_MAX_SHEET_BYTES elements are enough for every sheet. */
+STRIP_NODISCARD
 uint64_t strip_write(const uint16_t *numbers, size_t numbers_len,
                      uint8_t *sheet, size_t sheet_len);
 
@@ -95,6 +108,7 @@ uint64_t strip_write(const uint16_t *numbers, size_t numbers_len,
  * ends) count once. The list starts with a pull for each edge, in the sheet's order: of parallel
  * edges the first carries the pull, and each later one's is 0. Refusals 1 to 8. STRIP_MAX_PLACES
  * and STRIP_MAX_LIST are enough for every sheet. */
+STRIP_NODISCARD
 uint64_t strip_draw(const uint8_t *sheet, size_t sheet_len,
                     uint16_t *places, size_t places_len,
                     int32_t *list, size_t list_len);
@@ -103,6 +117,7 @@ uint64_t strip_draw(const uint8_t *sheet, size_t sheet_len,
  * yes, 0 for no. The total is that of strip_draw. The pull of the first of parallel edges is -1, 0
  * or 1, or any number where one of them is straight; where a later one's is not 0 the answer is no.
  * Refusals 1 to 7. Elements behind those that the sheet needs are not looked at. */
+STRIP_NODISCARD
 uint64_t strip_check(const uint8_t *sheet, size_t sheet_len,
                      const uint16_t *places, size_t places_len,
                      const int32_t *list, size_t list_len);
@@ -110,16 +125,19 @@ uint64_t strip_check(const uint8_t *sheet, size_t sheet_len,
 /* Tells the minimum width, the least at which the sheet has a drawing, whatever its own width is;
  * and the least total at that width. The value is the total, strip_second() the width. Refusals 1
  * to 6 and 10. */
+STRIP_NODISCARD
 uint64_t strip_narrowest(const uint8_t *sheet, size_t sheet_len);
 
 /* Reads a coordinate file into the front of numbers: the count of layers, then for each layer its
  * count of nodes and their places. The value is the count of numbers. Refusals 1, 2, 3, 4, 6 and 7.
  * STRIP_MAX_DRAWING_NUMBERS elements are enough for every file. */
+STRIP_NODISCARD
 uint64_t strip_read_drawing(const uint8_t *file, size_t file_len,
                             uint16_t *numbers, size_t numbers_len);
 
 /* Writes the coordinate file of such a list into the front of file. The value is the count of
  * bytes. Refusals 1, 4, 6 and 7. STRIP_MAX_DRAWING_BYTES elements are enough for every file. */
+STRIP_NODISCARD
 uint64_t strip_write_drawing(const uint16_t *numbers, size_t numbers_len,
                              uint8_t *file, size_t file_len);
 
@@ -129,17 +147,17 @@ uint32_t strip_version(void);
 
 /* The number of the refusal in an answer; 0 where the call succeeded. */
 static inline uint32_t strip_refusal(uint64_t answer) {
-    return (uint32_t)(answer >> 32) & 0xFFFF;
+    return (answer >> 32) & 0xFFFF;
 }
 
 /* The value in an answer: the result, or where the input is refused. */
 static inline uint32_t strip_value(uint64_t answer) {
-    return (uint32_t)answer;
+    return answer & 0xFFFFFFFF;
 }
 
 /* The second value in an answer: the minimum width of strip_narrowest; 0 elsewhere. */
 static inline uint32_t strip_second(uint64_t answer) {
-    return (uint32_t)(answer >> 48);
+    return strip_value(answer >> 48);
 }
 
 #ifdef __cplusplus
