@@ -20,8 +20,9 @@ and write coordinate files, which hold drawings.
     Traceback (most recent call last):
     strip.Refusal: refused 1 at 2
 
-Every sheet and every file is allowed: one that has no answer raises Refusal. A number that its type cannot hold
-raises OverflowError.
+Every sheet and every file is allowed: one that has no answer raises Refusal, whose text says in a sentence why. It
+is any bytes-like object, of which the bytes count, not the elements; anything else raises TypeError. A number that
+its type cannot hold raises OverflowError.
 
 The shared library is the file that STRIP_LIBRARY names; without it, the one that make builds in the repository
 of this file, and where that is not there, the one that is installed.
@@ -34,6 +35,42 @@ from array import array
 from typing import Iterable, List, NamedTuple, Tuple
 
 __version__ = "0.6.0"
+
+# What a program can use.
+__all__ = [
+    # generated from strip.h, names of constants: begin
+    "MAX_SHEET_BYTES",
+    "MAX_NUMBERS",
+    "MAX_PLACES",
+    "MAX_LIST",
+    "MAX_DRAWING_NUMBERS",
+    "MAX_DRAWING_BYTES",
+    "STACK_BYTES",
+    # generated from strip.h, names of constants: end
+    # generated from strip.h, names of refusals: begin
+    "INPUT_ENDED",
+    "NOT_A_SHEET",
+    "NUMBER_FORM",
+    "OUTSIDE_LIMITS",
+    "SEPARATIONS_CROSSED",
+    "SOMETHING_FOLLOWS",
+    "SLICE_SHORT",
+    "NO_DRAWING",
+    "NO_WIDTH",
+    # generated from strip.h, names of refusals: end
+    "Drawing",
+    "Narrowest",
+    "Refusal",
+    "check",
+    "draw",
+    "drawing_numbers",
+    "narrowest",
+    "read",
+    "read_drawing",
+    "sizes",
+    "write",
+    "write_drawing",
+]
 
 # generated from strip.h, constants: begin
 # No sheet has more bytes.
@@ -57,8 +94,8 @@ STACK_BYTES = 53248
 # generated from strip.h, refusals: begin
 # The input ends before the sheet or file does. The offset is the input's length.
 INPUT_ENDED = 1
-# The first three bytes are not those of the format: 53 50 31 for a sheet, 53 44 31 for a
-# coordinate file. Both readers meet it, each with the other's bytes too. The offset is 0.
+# The first three bytes are not those of the format. They are 53 50 31 in a sheet, 53 44 31 in
+# a coordinate file. Both readers meet it, each with the other's bytes too. The offset is 0.
 NOT_A_SHEET = 2
 # A number is not in the fewest bytes, or takes more than two. The offset is that of the
 # number's first byte.
@@ -79,6 +116,21 @@ NO_DRAWING = 8
 NO_WIDTH = 10
 # generated from strip.h, refusals: end
 
+# What each refusal means.
+_TEXTS = {
+    # generated from strip.h, texts of refusals: begin
+    INPUT_ENDED: "The input ends before the sheet or file does",
+    NOT_A_SHEET: "The first three bytes are not those of the format",
+    NUMBER_FORM: "A number is not in the fewest bytes, or takes more than two",
+    OUTSIDE_LIMITS: "A number lies outside its limits",
+    SEPARATIONS_CROSSED: "A maximum separation is set and is below its minimum separation",
+    SOMETHING_FOLLOWS: "Something follows the last edge of a sheet, or the last node of a coordinate file",
+    SLICE_SHORT: "A slice is too short for what is to be read or written there",
+    NO_DRAWING: "No drawing exists",
+    NO_WIDTH: "No width from 0 to 4,095 has a drawing",
+    # generated from strip.h, texts of refusals: end
+}
+
 
 class Refusal(Exception):
     """Why there is no answer: the number of the refusal, and where: the offset of a byte, from 0 (in write and
@@ -92,6 +144,11 @@ class Refusal(Exception):
     def __str__(self) -> str:
         """The refusal as the program place prints it."""
         return f"refused {self.number} at {self.offset}"
+
+    @property
+    def text(self) -> str:
+        """What the refusal means, in a sentence without its full stop."""
+        return _TEXTS.get(self.number, "No refusal has this number")
 
 
 class Drawing(NamedTuple):
@@ -165,7 +222,11 @@ def write_drawing(numbers: Iterable[int]) -> bytes:
 
 
 def drawing_numbers(counts: List[int], places: List[int]) -> List[int]:
-    """The number list of a drawing's coordinate file, by the count of nodes in each layer and all places."""
+    """The number list of a drawing's coordinate file, by the count of nodes in each layer and all places.
+
+    Counts that do not add up to the count of places raise ValueError."""
+    if any(count < 0 for count in counts) or sum(counts) != len(places):
+        raise ValueError(f"counts {counts} do not fit {len(places)} places")
     numbers, at = [len(counts)], 0
     for count in counts:
         numbers += [count, *places[at : at + count]]
@@ -217,8 +278,9 @@ def _parts(number: int) -> Tuple[int, int, int]:
 
 
 def _bytes(source: bytes) -> ctypes.Array:
-    """A slice of the bytes of a sheet or a coordinate file."""
-    return (_U8 * len(source)).from_buffer_copy(source)
+    """A slice of the bytes of a sheet or a coordinate file: those of its memory, whatever its elements are."""
+    view = memoryview(source).cast("B")
+    return (_U8 * len(view)).from_buffer_copy(view)
 
 
 def _numbers(numbers: Iterable[int]) -> ctypes.Array:

@@ -1,10 +1,13 @@
 """Tests of the module strip: python3 -m unittest discover --start-directory bindings/python"""
 
+import ctypes
 import doctest
+import inspect
 import os
 import subprocess
 import sys
 import unittest
+from array import array
 
 import strip
 
@@ -120,6 +123,18 @@ class Answers(unittest.TestCase):
         self.assertTrue(strip.check(sheet, drawing.places, drawing.certificate))
         self.assertEqual(strip.narrowest(sheet).width, 63)
 
+    def test_wide_elements(self):
+        """The bytes of the memory count, whatever the elements are."""
+        wide = array("H")
+        wide.frombytes(SHEET)
+        self.assertEqual(len(wide), len(SHEET) // 2)
+        self.assertEqual(strip.draw(wide), strip.draw(SHEET))
+        self.assertEqual(strip.read(memoryview(SHEET).cast("H")), NUMBERS)
+        self.assertEqual(strip.narrowest(memoryview(SHEET).cast("B", [2, 9])), (1, 1))
+        self.assertIs(strip.check(wide, PLACES, CERTIFICATE), True)
+        file = (ctypes.c_uint16 * 4).from_buffer_copy(b"SD1\x01\x02\x00\xff\x1f")
+        self.assertEqual(strip.read_drawing(file), [1, 2, 0, 4095])
+
     def test_any_bytes(self):
         for kind in (bytearray, memoryview):
             self.assertEqual(strip.draw(kind(SHEET)).places, PLACES)
@@ -136,6 +151,7 @@ class Refusals(unittest.TestCase):
         refusal = caught.exception
         self.assertEqual((refusal.number, refusal.offset), (number, offset))
         self.assertEqual(str(refusal), f"refused {number} at {offset}")
+        self.assertNotEqual(refusal.text, strip.Refusal(99, 0).text)
 
     def test_sheets(self):
         for call in (strip.read, strip.draw, strip.narrowest):
@@ -186,9 +202,33 @@ class Refusals(unittest.TestCase):
             self.assertRaises(OverflowError, strip.write_drawing, numbers)
             self.assertRaises(OverflowError, strip.check, SHEET, numbers, CERTIFICATE)
         self.assertRaises(OverflowError, strip.check, SHEET, PLACES, [2**31])
-        self.assertRaises(TypeError, strip.draw, "SP1")
-        self.assertRaises(TypeError, strip.read_drawing, "SD1")
+        for call in (strip.read, strip.draw, strip.narrowest, strip.read_drawing):
+            for source in ("SP1", list(SHEET), 5, None, memoryview(SHEET)[::2]):
+                self.assertRaises(TypeError, call, source)
+        self.assertRaises(TypeError, strip.check, list(SHEET), PLACES, CERTIFICATE)
         self.assertRaises(TypeError, strip.write, [0.5])
+
+    def test_counts(self):
+        """Counts that are not those of the places."""
+        for counts in ([2], [2, 2], [], [3, 1], [4, -1], [-1, 4]):
+            self.assertRaises(ValueError, strip.drawing_numbers, counts, PLACES)
+        self.assertRaises(ValueError, strip.drawing_numbers, [1], [])
+        self.assertEqual(strip.drawing_numbers([], []), [0])
+
+
+class Names(unittest.TestCase):
+    """What the module hands out."""
+
+    def test_all(self):
+        """All names of the module's own that do not start with an underscore."""
+        own = [name for name, value in vars(strip).items() if name[0] != "_" and not inspect.ismodule(value)]
+        imported = {"array", "Iterable", "List", "NamedTuple", "Tuple"}
+        self.assertEqual(sorted(strip.__all__), sorted(set(own) - imported))
+
+    def test_text(self):
+        """What a refusal means."""
+        self.assertEqual(strip.Refusal(strip.NO_DRAWING, 0).text, "No drawing exists")
+        self.assertEqual(strip.Refusal(9, 0).text, "No refusal has this number")
 
 
 class Library(unittest.TestCase):

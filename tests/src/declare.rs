@@ -7,19 +7,28 @@ use std::path::Path;
 /// The header, from the root of the repository.
 pub const HEADER: &str = "crates/strip/include/strip.h";
 
+/// How a mark starts; what it is of, and whether it begins or ends, follow.
+const MARK: &str = "generated from strip.h, ";
+
 /// What is known of a constant, a refusal or a function, by the words in braces below.
 pub type Item = BTreeMap<&'static str, String>;
 
-/// Files, the kinds of items that they repeat, and in what form. In braces are words for what the
-/// code says, or words of the comment for what it says behind them; `{}` is its first sentence.
+/// Files, what their marks say, and in what form an item stands there; the last word of the marks is the
+/// kind of the items. In braces are words for what the code says, or words of the comment for what it
+/// says behind them; `{}` is its first sentence.
 #[rustfmt::skip]
-const PARTS: [(&str, &str, &str); 9] = [
+const PARTS: [(&str, &str, &str); 14] = [
+    (HEADER, "texts of refusals", "    case STRIP_{name}:\n        return \"{}\";"),
     ("crates/strip/exports.map", "functions", "        {name};"),
     ("bindings/rust/src/lib.rs", "constants", "/// {comment}\npub const {name}: usize = {number};"),
     ("bindings/rust/src/lib.rs", "refusals", "    /// {comment}\n    pub const {name}: u32 = {number};"),
+    ("bindings/rust/src/lib.rs", "texts of refusals", "        {number} => \"{}\","),
     ("bindings/rust/src/lib.rs", "functions", "        pub fn {name}({rust}) -> {result};"),
+    ("bindings/python/strip.py", "names of constants", "    \"{name}\","),
+    ("bindings/python/strip.py", "names of refusals", "    \"{name}\","),
     ("bindings/python/strip.py", "constants", "# {comment}\n{name} = {number}"),
     ("bindings/python/strip.py", "refusals", "# {comment}\n{name} = {number}"),
+    ("bindings/python/strip.py", "texts of refusals", "    {name}: \"{}\","),
     ("bindings/python/strip.py", "functions", "    \"{name}\": [{python}],"),
     ("docs/LIBRARY.md", "functions", "| `{name}` | {reads} | {writes} | {The value is } | {Refusals } |"),
     ("docs/REFUSALS.md", "refusals", "| [{number}](#{section}) | `STRIP_{name}` | {} | {The offset is } |"),
@@ -41,18 +50,19 @@ pub fn declared(root: &Path) -> Result<BTreeMap<&'static str, String>, String> {
     let read = |file| fs::read_to_string(root.join(file)).map_err(|e| format!("{file}: {e}"));
     let header = parse(&read(HEADER)?)?;
     let mut files = BTreeMap::new();
-    for (file, kind, form) in PARTS {
+    for (file, marks, form) in PARTS {
         let old = files.remove(file).map_or_else(|| read(file), Ok)?;
+        let kind = marks.rsplit(' ').next().unwrap_or(marks);
         let lines = header[kind].iter().map(|item| filled(item, form, &old));
-        let new = between_marks(&old, kind, &lines.collect::<Result<String, _>>()?);
-        files.insert(file, new.ok_or(format!("{file}: no marks for {kind}"))?);
+        let new = between_marks(&old, marks, &lines.collect::<Result<String, _>>()?);
+        files.insert(file, new.ok_or(format!("{file}: no marks for {marks}"))?);
     }
     Ok(files)
 }
 
-/// A file with other lines between its marks for a kind of items; the head of a table stays.
-pub fn between_marks(file: &str, kind: &str, lines: &str) -> Option<String> {
-    let mark = |end| file.find(&format!("generated from strip.h, {kind}: {end}"));
+/// A file with other lines between its marks; the head of a table stays.
+pub fn between_marks(file: &str, marks: &str, lines: &str) -> Option<String> {
+    let mark = |end| file.find(&format!("{MARK}{marks}: {end}"));
     let (begin, end) = (mark("begin")?, file[..mark("end")?].rfind('\n')? + 1);
     let begin = begin + file[begin..].find('\n')? + 1;
     let head = file.get(begin..end)?.find("---|\n").map_or(0, |at| at + 5);
@@ -84,7 +94,7 @@ pub fn filled(item: &Item, form: &str, page: &str) -> Result<String, String> {
 /// The constants, the refusals and the functions of a header, or what cannot be read.
 pub fn parse(text: &str) -> Result<BTreeMap<&'static str, Vec<Item>>, String> {
     let mut header: BTreeMap<_, Vec<Item>> = BTreeMap::new();
-    for part in text.split("/*") {
+    for part in by_hand(text).split("/*") {
         let (comment, code) = part.split_once("*/").unwrap_or(("", part));
         let code = code.lines().filter(is_declaration);
         let code: Vec<&str> = code.flat_map(str::split_whitespace).collect();
@@ -95,6 +105,19 @@ pub fn parse(text: &str) -> Result<BTreeMap<&'static str, Vec<Item>>, String> {
         header.entry(kind).or_default().push(item);
     }
     Ok(header)
+}
+
+/// A header without what is generated from it, and without the marks around that.
+fn by_hand(text: &str) -> String {
+    let (mut by_hand, mut lines) = (String::new(), text.lines());
+    while let Some(line) = lines.next() {
+        if line.contains(MARK) {
+            lines.find(|line| line.contains(MARK));
+        } else {
+            by_hand += &format!("{line}\n");
+        }
+    }
+    by_hand
 }
 
 /// Whether a line belongs to a declaration that other files repeat.

@@ -14,7 +14,7 @@ const REWRITE: &str = "cargo run --release --bin declare";
 #[test]
 fn files_have_what_the_header_declares() {
     let files = declared(&root()).expect("all files can be written");
-    assert_eq!(files.len(), 5);
+    assert_eq!(files.len(), 6);
     for (file, text) in files {
         let found = fs::read_to_string(root().join(file)).expect(file);
         assert!(found == text, "{file} differs; write it with: {REWRITE}");
@@ -60,6 +60,28 @@ STRIP_NODISCARD
 uint64_t strip_read(void);\n";
     let expected = ["strip_read", "", "u64"];
     assert_eq!(known(text, ["name", "rust", "result"]), expected);
+}
+
+#[test]
+fn what_is_generated_is_not_read() {
+    let text = "/* Tells. */
+static inline const char *strip_text(uint32_t number) {
+    switch (number) {
+    /* generated from strip.h, texts of refusals: begin */
+    case STRIP_ONE:
+        return \"one\";
+    case STRIP_TWO:
+        return \"two\";
+    /* generated from strip.h, texts of refusals: end */
+    default:
+        return \"none\";
+    }
+}
+
+/* Two is met. */
+STRIP_TWO = 2,\n";
+    assert_eq!(only("refusals", text).expect("a refusal")["number"], "2");
+    assert!(parse(&text.replace("generated from ", "")).is_err());
 }
 
 #[test]

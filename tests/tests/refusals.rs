@@ -1,15 +1,17 @@
-//! The page of the refusals, docs/REFUSALS.md: a row and a section for each refusal of the header, and
-//! examples in each section that both implementations answer as they say.
+//! The page of the refusals, docs/REFUSALS.md: a row and a section for each refusal of the header,
+//! examples in each section that both implementations answer as they say, and the texts of the refusals
+//! in each language.
 
 mod tools;
 
 use std::fs;
+use std::process::Command;
 
 use compare::Proved;
 use second::refusal::Refusal;
 use strip_tests::cases::Call;
 use strip_tests::document::{crossing, NO_DRAWING, ONE_NODE, REFUSED};
-use tools::root;
+use tools::{compiler, folder, output, python, root, HEADER};
 
 /// The text of the page.
 fn page() -> String {
@@ -169,4 +171,85 @@ fn examples_are_those_of_document_01() {
     let document = REFUSED.iter().map(|&(_, bytes)| bytes);
     let document = document.chain([&ONE_NODE[..], &NO_DRAWING[..], &crossing]);
     assert!(examples.eq(document));
+}
+
+/// The greatest number that the texts are asked for.
+const GREATEST: u32 = 12;
+
+/// The numbers from 0 on with the texts that they have, by the table of the page; a line for each.
+fn texts_of_the_page() -> String {
+    let page = page();
+    let rows = page.lines().filter(|line| line.starts_with("| ["));
+    let cells = rows.map(|row| row.split(" | ").collect::<Vec<_>>());
+    let mut texts = vec!["No refusal has this number"; GREATEST as usize + 1];
+    texts[0] = "The call succeeded";
+    for row in cells {
+        let (number, _) = row[0][3..].split_once(']').expect("a number");
+        texts[number.parse::<usize>().expect("a number")] = row[2];
+    }
+    let lines = (0..).zip(&texts).map(|(n, text)| format!("{n} {text}\n"));
+    lines.collect()
+}
+
+#[test]
+fn the_page_has_the_first_sentence_of_each_comment() {
+    let page = texts_of_the_page();
+    let refusals = tools::header("refusals");
+    for item in &refusals {
+        let line = format!("\n{} {}\n", item["number"], item[""]);
+        assert!(page.contains(&line), "{line}");
+        assert!(item[""].len() <= 100 && !item[""].contains(". "), "{line}");
+    }
+    let none = page.matches("No refusal has this number").count();
+    assert_eq!(none + refusals.len(), GREATEST as usize);
+    let header = fs::read_to_string(root().join(HEADER)).expect("the header");
+    assert!(header.contains("    /* The call succeeded. */\n    STRIP_OK = 0,\n"));
+}
+
+#[test]
+fn texts_in_c_and_cpp_are_those_of_the_page() {
+    for (name, language, standard) in [
+        ("gcc", "c", "c99"),
+        ("clang", "c", "c99"),
+        ("g++", "c++", "c++11"),
+        ("clang++", "c++", "c++20"),
+    ] {
+        let program = folder(&format!("refusals-{name}")).join("texts");
+        let mut compiler = compiler(name, standard);
+        compiler.args(["-x", language, tools::LIBRARY[0], "tests/c/texts.c", "-o"]);
+        output(compiler.arg(&program));
+        assert_eq!(output(&mut Command::new(program)), texts_of_the_page());
+    }
+}
+
+#[test]
+fn texts_in_rust_are_those_of_the_page() {
+    let texts = (1..=GREATEST).map(|number| {
+        let refusal = strip::Refusal { number, offset: 3 };
+        let line = format!("refused {number} at 3");
+        assert_eq!(refusal.to_string(), line);
+        assert_eq!(
+            format!("{refusal:#}"),
+            format!("{line}: {}", refusal.text())
+        );
+        format!("{number} {}\n", refusal.text())
+    });
+    let page = texts_of_the_page();
+    assert_eq!(
+        page,
+        "0 The call succeeded\n".to_string() + &texts.collect::<String>()
+    );
+}
+
+#[test]
+fn texts_in_python_are_those_of_the_page() {
+    let code = format!(
+        "import strip
+for number in range(1, {GREATEST} + 1):
+    refusal = strip.Refusal(number, 3)
+    assert str(refusal) == f'refused {{number}} at 3'
+    print(number, refusal.text)"
+    );
+    let told = output(python().args(["-c", &code]));
+    assert_eq!(texts_of_the_page(), format!("0 The call succeeded\n{told}"));
 }

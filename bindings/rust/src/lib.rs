@@ -53,8 +53,8 @@ impl Refusal {
     // generated from strip.h, refusals: begin
     /// The input ends before the sheet or file does. The offset is the input's length.
     pub const INPUT_ENDED: u32 = 1;
-    /// The first three bytes are not those of the format: 53 50 31 for a sheet, 53 44 31 for a
-    /// coordinate file. Both readers meet it, each with the other's bytes too. The offset is 0.
+    /// The first three bytes are not those of the format. They are 53 50 31 in a sheet, 53 44 31 in
+    /// a coordinate file. Both readers meet it, each with the other's bytes too. The offset is 0.
     pub const NOT_A_SHEET: u32 = 2;
     /// A number is not in the fewest bytes, or takes more than two. The offset is that of the
     /// number's first byte.
@@ -76,10 +76,47 @@ impl Refusal {
     // generated from strip.h, refusals: end
 }
 
-/// The refusal as the program `place` prints it.
+impl Refusal {
+    /// What the refusal means, in a sentence without its full stop.
+    ///
+    /// ```
+    /// let refusal = strip::narrowest(b"SP2").unwrap_err();
+    /// let text = "The first three bytes are not those of the format";
+    /// assert_eq!(refusal.text(), text);
+    /// assert_eq!(format!("{refusal}"), "refused 2 at 0");
+    /// assert_eq!(format!("{refusal:#}"), format!("refused 2 at 0: {text}"));
+    /// ```
+    pub fn text(&self) -> &'static str {
+        text_of(self.number)
+    }
+}
+
+/// What a number means.
+fn text_of(number: u32) -> &'static str {
+    match number {
+        // generated from strip.h, texts of refusals: begin
+        1 => "The input ends before the sheet or file does",
+        2 => "The first three bytes are not those of the format",
+        3 => "A number is not in the fewest bytes, or takes more than two",
+        4 => "A number lies outside its limits",
+        5 => "A maximum separation is set and is below its minimum separation",
+        6 => "Something follows the last edge of a sheet, or the last node of a coordinate file",
+        7 => "A slice is too short for what is to be read or written there",
+        8 => "No drawing exists",
+        10 => "No width from 0 to 4,095 has a drawing",
+        // generated from strip.h, texts of refusals: end
+        _ => "No refusal has this number",
+    }
+}
+
+/// The refusal as the program `place` prints it; in the form `{:#}` its text stands behind.
 impl fmt::Display for Refusal {
     fn fmt(&self, formatter: &mut fmt::Formatter<'_>) -> fmt::Result {
-        write!(formatter, "refused {} at {}", self.number, self.offset)
+        write!(formatter, "refused {} at {}", self.number, self.offset)?;
+        match formatter.alternate() {
+            true => write!(formatter, ": {}", self.text()),
+            false => Ok(()),
+        }
     }
 }
 

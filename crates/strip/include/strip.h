@@ -69,8 +69,8 @@ enum {
     STRIP_OK = 0,
     /* The input ends before the sheet or file does. The offset is the input's length. */
     STRIP_INPUT_ENDED = 1,
-    /* The first three bytes are not those of the format: 53 50 31 for a sheet, 53 44 31 for a
-     * coordinate file. Both readers meet it, each with the other's bytes too. The offset is 0. */
+    /* The first three bytes are not those of the format. They are 53 50 31 in a sheet, 53 44 31 in
+     * a coordinate file. Both readers meet it, each with the other's bytes too. The offset is 0. */
     STRIP_NOT_A_SHEET = 2,
     /* A number is not in the fewest bytes, or takes more than two. The offset is that of the
      * number's first byte. */
@@ -158,6 +158,34 @@ static inline uint32_t strip_value(uint64_t answer) {
 /* The second value in an answer: the minimum width of strip_narrowest; 0 elsewhere. */
 static inline uint32_t strip_second(uint64_t answer) {
     return strip_value(answer >> 48);
+}
+
+/* What a number of strip_refusal() means, in a sentence without its full stop. */
+static inline const char *strip_refusal_text(uint32_t number) {
+    switch (number) {
+    /* generated from strip.h, texts of refusals: begin */
+    case STRIP_INPUT_ENDED:
+        return "The input ends before the sheet or file does";
+    case STRIP_NOT_A_SHEET:
+        return "The first three bytes are not those of the format";
+    case STRIP_NUMBER_FORM:
+        return "A number is not in the fewest bytes, or takes more than two";
+    case STRIP_OUTSIDE_LIMITS:
+        return "A number lies outside its limits";
+    case STRIP_SEPARATIONS_CROSSED:
+        return "A maximum separation is set and is below its minimum separation";
+    case STRIP_SOMETHING_FOLLOWS:
+        return "Something follows the last edge of a sheet, or the last node of a coordinate file";
+    case STRIP_SLICE_SHORT:
+        return "A slice is too short for what is to be read or written there";
+    case STRIP_NO_DRAWING:
+        return "No drawing exists";
+    case STRIP_NO_WIDTH:
+        return "No width from 0 to 4,095 has a drawing";
+    /* generated from strip.h, texts of refusals: end */
+    default:
+        return number == STRIP_OK ? "The call succeeded" : "No refusal has this number";
+    }
 }
 
 #ifdef __cplusplus
