@@ -4,19 +4,35 @@
  * minimum width with the least total there, the total, what the checker says, and then how long the
  * coordinate file is.
  *
- * Exit status: 0 drawn and accepted, 1 refused or not accepted, 2 the file cannot be read.
+ * Exit status: 0 drawn and accepted, 1 refused or not accepted, 2 the file cannot be read or the
+ * width is no number.
  */
 #include <stdio.h>
-#include <stdlib.h>
 #include <strip.h>
 
-/* Prints the refusal of a call, where it has one, and answers whether it has. */
+/* Prints the refusal of a call with its text, where it has one, and answers whether it has. */
 static int refused(const char *call, uint64_t answer) {
     if (strip_refusal(answer) == STRIP_OK)
         return 0;
-    printf("%s: refused %lu at %lu\n", call, (unsigned long)strip_refusal(answer),
-           (unsigned long)strip_value(answer));
+    printf("%s: refused %lu at %lu: %s\n", call, (unsigned long)strip_refusal(answer),
+           (unsigned long)strip_value(answer), strip_refusal_text(strip_refusal(answer)));
     return 1;
+}
+
+/* Reads a width in decimal digits, and answers whether the text is one. A width that is too great
+ * for a number of a sheet becomes the greatest one, which is refused. */
+static int read_width(const char *text, uint16_t *width) {
+    unsigned long number = 0;
+
+    if (*text == '\0')
+        return 0;
+    for (; *text >= '0' && *text <= '9'; text++) {
+        number = 10 * number + (unsigned long)(*text - '0');
+        if (number > UINT16_MAX)
+            number = UINT16_MAX;
+    }
+    *width = (uint16_t)number;
+    return *text == '\0';
 }
 
 /* Lists the numbers of a coordinate file, from the numbers of a sheet and the places of a drawing:
@@ -40,8 +56,8 @@ int main(int argc, char **argv) {
     uint16_t numbers[STRIP_MAX_NUMBERS], places[STRIP_MAX_PLACES];
     uint16_t drawing[STRIP_MAX_DRAWING_NUMBERS];
     int32_t list[STRIP_MAX_LIST];
+    uint16_t width;
     size_t length, count;
-    unsigned long width;
     uint64_t answer;
     FILE *file;
 
@@ -52,6 +68,10 @@ int main(int argc, char **argv) {
     /* A library of the same MAJOR and MINOR answers as the header says. */
     if (strip_version() >> 8 != (STRIP_VERSION_MAJOR << 8 | STRIP_VERSION_MINOR)) {
         fprintf(stderr, "tour: the library has another version than strip.h, " STRIP_VERSION "\n");
+        return 2;
+    }
+    if (!read_width(argv[2], &width)) {
+        fprintf(stderr, "tour: '%s' is no width: it takes decimal digits alone\n", argv[2]);
         return 2;
     }
     file = fopen(argv[1], "rb");
@@ -67,8 +87,7 @@ int main(int argc, char **argv) {
     if (refused("read", answer))
         return 1;
     count = strip_value(answer);
-    width = strtoul(argv[2], NULL, 10);
-    numbers[0] = (uint16_t)(width > UINT16_MAX ? UINT16_MAX : width);
+    numbers[0] = width;
 
     /* The least width at which it has a drawing, with the least total there. */
     answer = strip_narrowest(bytes, length);

@@ -98,6 +98,31 @@ fn rust_example_draws() {
 }
 
 #[test]
+fn rust_build_tells_in_a_line_that_the_library_is_missing() {
+    let empty = folder("languages-rust-missing");
+    let mut cargo = Command::new(env!("CARGO"));
+    cargo.args(["build", "--offline", "--locked", "--package", "strip"]);
+    cargo.arg("--target-dir").arg(empty.join("target"));
+    let ended = run_in(&root(), cargo.env("STRIP_LIB_DIR", &empty));
+    let said = String::from_utf8_lossy(&ended.stderr);
+    assert!(
+        !ended.status.success() && said.contains("(exit status: 1)"),
+        "{said}"
+    );
+    let library = empty.join("libstrip.a");
+    let line = format!(
+        "  {} is missing: build it with make lib, ",
+        library.display()
+    );
+    assert_eq!(said.matches(&line).count(), 1, "{said}");
+    assert!(said.trim_end().ends_with("STRIP_LIB_DIR"), "{said}");
+    assert!(
+        !said.contains("panicked") && !said.contains("RUST_BACKTRACE"),
+        "{said}"
+    );
+}
+
+#[test]
 fn python_example_draws() {
     shared_library();
     let example = || {
@@ -141,7 +166,7 @@ fn tour_calls_all_functions() {
             command
         };
         let narrowest = "narrowest: width 1, total 2\n";
-        let told = format!("{narrowest}draw: refused 8 at 0\n");
+        let told = format!("{narrowest}draw: refused 8 at 0: No drawing exists\n");
         check_ends(&mut tour("0"), 1, &told, 0);
         for width in [1, 2, 3, 4095] {
             let text = printed(&stair(width, PLAIN).bytes());
@@ -151,13 +176,26 @@ fn tour_calls_all_functions() {
             check_ends(&mut tour(&width.to_string()), 0, &told, 0);
         }
         for width in ["4096", "65535", "65536", "99999999999999999999"] {
-            let told = format!("{narrowest}write: refused 4 at 0\n");
-            check_ends(&mut tour(width), 1, &told, 0);
+            let told = "write: refused 4 at 0: A number lies outside its limits\n";
+            check_ends(&mut tour(width), 1, &format!("{narrowest}{told}"), 0);
+        }
+        for width in [
+            "", "abc", "48x", "x48", "-1", "+1", " 1", "1 ", "1.5", "0x1",
+        ] {
+            check_ends(&mut tour(width), 2, "", 1);
         }
         fs::write(&sheet, crossing().bytes()).expect("a sheet can be written");
-        check_ends(&mut tour("1"), 1, "narrowest: refused 10 at 0\n", 0);
+        let text = "No width from 0 to 4,095 has a drawing";
+        let told = format!("narrowest: refused 10 at 0: {text}\n");
+        check_ends(&mut tour("1"), 1, &told, 0);
         fs::write(&sheet, REFUSED[2].1).expect("a sheet can be written");
-        check_ends(&mut tour("1"), 1, "read: refused 3 at 3\n", 0);
+        let text = "A number is not in the fewest bytes, or takes more than two";
+        check_ends(
+            &mut tour("1"),
+            1,
+            &format!("read: refused 3 at 3: {text}\n"),
+            0,
+        );
         fs::remove_file(&sheet).expect("the sheet is there");
         check_ends(&mut tour("1"), 2, "", 1);
         check_ends(&mut Command::new(&program), 2, "", 1);
