@@ -9,6 +9,7 @@ use std::collections::HashMap;
 use std::fs::{self, File, OpenOptions};
 use std::io::{ErrorKind, Read, Seek, Write};
 use std::os::unix::fs::OpenOptionsExt;
+use std::os::unix::process::ExitStatusExt;
 use std::path::{Path, PathBuf};
 use std::process::{Command, Output, Stdio};
 use std::thread;
@@ -29,6 +30,13 @@ const LIMIT: Duration = Duration::from_secs(20);
 const PAUSE: Duration = Duration::from_millis(2);
 /// How many bytes `place` reads at most.
 const READ: usize = 5122;
+/// KiB of stack that are enough for `place`, with so many KiB of arguments and environment.
+const STACK: usize = 72;
+const SURROUNDINGS: usize = 3;
+/// KiB of stack in which `place` never runs, whatever surrounds it.
+const SHORT_STACK: usize = 56;
+/// Linux's signal for an access that is not allowed.
+const SIGSEGV: i32 = 11;
 /// Linux's flag for a file that refuses what it cannot take at once.
 const O_NONBLOCK: i32 = 0o4000;
 
@@ -69,6 +77,18 @@ fn shell(script: &str) -> Command {
     let mut command = Command::new("sh");
     command.arg("-c").arg(script).arg(place());
     with_pipes(command)
+}
+
+/// The program in this many KiB of stack. Its environment, a variable, takes with its one argument, its
+/// name, as much as it may: the bytes of each, one for its end and eight for its address.
+fn on_stack(kib: usize) -> Command {
+    let taken = |text: &str| text.len() + 1 + 8;
+    let name = place().display().to_string();
+    let rest = SURROUNDINGS * 1024 - taken(&name) - taken("FILLING=");
+    let mut command =
+        shell(r#"exec env -i FILLING="$2" "$(command -v prlimit)" --core=0 --stack="$1" "$0""#);
+    command.arg((kib * 1024).to_string()).arg("x".repeat(rest));
+    command
 }
 
 /// Runs a command with an input, where it is a pipe, in pieces of this size and a pause behind each.
@@ -178,6 +198,29 @@ fn random_and_damaged_sheets_are_printed() {
         check(&damage(&mut random, &bytes));
         check(&bytes);
     }
+}
+
+#[test]
+fn a_small_stack_is_enough() {
+    let sheets = [large(8), largest().bytes(), document::first().bytes()];
+    for input in sheets.iter().chain([&NO_DRAWING.to_vec(), &Vec::new()]) {
+        let expected = printed(input);
+        for _ in 0..40 {
+            assert_eq!(output(&mut on_stack(STACK), input), expected);
+        }
+    }
+    // in much less the program does not run, so the limit is one
+    let found = run_in_pieces(&mut on_stack(SHORT_STACK), &large(8), 512, Duration::ZERO);
+    assert_eq!(found.status.signal(), Some(SIGSEGV));
+}
+
+#[test]
+fn the_page_tells_the_stack_that_is_enough() {
+    let page = fs::read_to_string(stored("docs/PERFORMANCE.md")).expect("the page");
+    let page = page.replace('\n', " ");
+    let stack = format!(" A stack of {STACK} KiB (`ulimit -s {STACK}`) is enough ");
+    let with = format!("with up to {SURROUNDINGS} KiB of arguments and environment");
+    assert!(page.contains(&(stack + &with)));
 }
 
 #[test]
