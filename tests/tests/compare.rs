@@ -6,7 +6,7 @@ mod wrong;
 
 use std::panic::{catch_unwind, AssertUnwindSafe};
 
-use compare::{sheet, Library};
+use compare::{page, sheet, Library};
 use rules::{Broken, Rule, READER, WRITER};
 use second::certificate;
 use second::checker;
@@ -344,6 +344,19 @@ fn a_library_without_fault_passes() {
         drawn += usize::from(sheet(&Faulty(Fault::Nothing), &bytes).drawn.is_ok());
     }
     assert!(drawn > 100, "{drawn}");
+}
+
+#[test]
+fn the_page_tells_how_many_faults_there_are() {
+    let (reader, writer) = (READER.len(), WRITER.len());
+    for sentence in [
+        format!("the reader breaks {reader} rules, one at a time, and the writer {writer} "),
+        format!("go by traces that are wrong in {} ways ", WAYS.len()),
+        format!("layer by layer with {} mistakes ", MISTAKES.len()),
+        format!("Each of the {} faults is found.", faults().len()),
+    ] {
+        page::check_said(&sentence);
+    }
 }
 
 #[test]

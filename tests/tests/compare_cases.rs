@@ -1,6 +1,6 @@
 //! Cases by hand, answered by the library and the second implementation.
 
-use compare::{grouped, Proved};
+use compare::{grouped, page, Proved};
 use strip_tests::cases::{
     check, coordinates, draw, format, narrowest, others, stored, Group, Line,
 };
@@ -14,7 +14,8 @@ struct Answers {
 }
 
 impl Answers {
-    /// Compares all cases of these groups that the library has a function for, and prints the counts.
+    /// Compares all cases of these groups that the library has a function for, prints the counts, and
+    /// checks that the page has them.
     fn of(kind: &str, groups: &[Group]) -> Answers {
         let mut answers = Answers::default();
         for call in groups.iter().flat_map(Group::calls) {
@@ -25,10 +26,12 @@ impl Answers {
                 None => {}
             }
         }
-        let refused = answers.refused.iter().sum();
-        let sum = grouped(answers.taken + answers.no + refused);
-        let [taken, no, refused] = [answers.taken, answers.no, refused].map(grouped);
+        let refused: usize = answers.refused.iter().sum();
+        let sum = answers.taken + answers.no + refused;
+        let row = [sum, answers.taken, answers.no, refused];
+        let [sum, taken, no, refused] = row.map(grouped);
         println!("compared: {sum} {kind}: {taken} taken or yes, {no} no, {refused} refused");
+        page::check_row(kind, &row);
         answers
     }
 }

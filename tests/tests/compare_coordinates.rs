@@ -118,7 +118,7 @@ fn compare_damaged(
             answers.count(&file(&Proved, &damage(&mut random, &bytes)));
         }
     }
-    answers.check(&format!("files and damaged files, {kind}"), least);
+    answers.check(kind, least);
 }
 
 #[test]
@@ -131,7 +131,12 @@ fn damaged_files() {
         (4, 10_000),
         (6, 4_000),
     ];
-    compare_damaged("random", (182, 4_000), |random| Some(any(random)), &least);
+    compare_damaged(
+        "files and damaged files, random",
+        (182, 4_000),
+        |random| Some(any(random)),
+        &least,
+    );
 }
 
 #[test]
@@ -141,7 +146,12 @@ fn damaged_files_of_full_size() {
         Some(full(random, layers))
     };
     let least = [(0, 500), (1, 300), (3, 200), (4, 500), (6, 200)];
-    compare_damaged("full size", (183, 300), full, &least);
+    compare_damaged(
+        "files and damaged files, full size",
+        (183, 300),
+        full,
+        &least,
+    );
 }
 
 /// A sheet of a random family.
@@ -176,7 +186,12 @@ fn damaged_files_of_drawings() {
         (4, 8_000),
         (6, 3_000),
     ];
-    compare_damaged("of drawings", (184, 4_000), any_drawn, &least);
+    compare_damaged(
+        "files and damaged files, of drawings",
+        (184, 4_000),
+        any_drawn,
+        &least,
+    );
 }
 
 #[test]
@@ -190,7 +205,7 @@ fn every_damage_of_the_files_by_hand() {
         }
     }
     let least = [(0, 10), (1, 30), (2, 30), (3, 20), (4, 30), (6, 10)];
-    answers.check("damaged files by hand, all there are", &least);
+    answers.check("damaged files by hand", &least);
 }
 
 #[test]

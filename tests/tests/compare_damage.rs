@@ -1,6 +1,6 @@
 //! Damaged sheets, answered by the library and the second implementation.
 
-use compare::{scale, Proved, Tally};
+use compare::{page, scale, Proved, Tally};
 use strip_tests::damage::DAMAGES;
 use strip_tests::document::{self, REFUSED};
 use strip_tests::draft::Draft;
@@ -25,7 +25,7 @@ fn compare_damaged(
             tally.add(&compare::sheet(&Proved, &damaged));
         }
     }
-    tally.print(&format!("damaged, {kind}"));
+    tally.print(kind);
     tally
 }
 
@@ -38,8 +38,13 @@ fn check_refusals(tally: &Tally, least: [usize; 6]) {
 }
 
 #[test]
+fn the_page_tells_how_many_kinds_of_damage_there_are() {
+    page::check_said(&format!("Damage is of {} kinds: ", DAMAGES.len()));
+}
+
+#[test]
 fn damaged_tiny_sheets() {
-    let tally = compare_damaged("tiny", (151, 5_000), generate::tiny);
+    let tally = compare_damaged("damaged, tiny", (151, 5_000), generate::tiny);
     check_refusals(&tally, [5_000, 2_000, 4_000, 10_000, 2_000, 4_000]);
     assert!(tally.drawn > 1_000 && tally.undrawn() > 1_000);
     assert!(tally.narrowed > 5_000 && tally.without_width > 200);
@@ -47,7 +52,7 @@ fn damaged_tiny_sheets() {
 
 #[test]
 fn damaged_sheets_of_any_numbers() {
-    let tally = compare_damaged("any numbers", (152, 3_000), generate::good);
+    let tally = compare_damaged("damaged, any numbers", (152, 3_000), generate::good);
     check_refusals(&tally, [2_000, 700, 3_000, 7_000, 2_000, 2_000]);
     assert!(tally.drawn > 100 && tally.undrawn() > 100);
     assert!(tally.narrowed > 1_000 && tally.without_width > 1_000);
@@ -55,10 +60,10 @@ fn damaged_sheets_of_any_numbers() {
 
 #[test]
 fn damaged_medium_and_realistic_sheets() {
-    let tally = compare_damaged("medium", (153, 800), sizes::medium);
+    let tally = compare_damaged("damaged, medium", (153, 800), sizes::medium);
     check_refusals(&tally, [600, 10, 700, 3_000, 300, 600]);
     assert!(tally.drawn > 800 && tally.undrawn() > 50);
-    let tally = compare_damaged("realistic", (154, 800), realistic::any);
+    let tally = compare_damaged("damaged, realistic", (154, 800), realistic::any);
     check_refusals(&tally, [600, 10, 700, 3_000, 300, 600]);
     assert!(tally.drawn > 800 && tally.undrawn() > 50);
 }
@@ -69,7 +74,7 @@ fn damaged_full_sheets() {
         let layers = [4, 8, 16, 64][random.index(4)];
         sizes::full(random, layers)
     };
-    let tally = compare_damaged("full size", (155, 120), full);
+    let tally = compare_damaged("damaged, full size", (155, 120), full);
     check_refusals(&tally, [80, 3, 80, 400, 50, 80]);
     assert!(tally.drawn > 100);
 }
@@ -87,7 +92,7 @@ fn every_damage_of_the_examples() {
             }
         }
     }
-    tally.print("damaged examples, all there are");
+    tally.print("damaged examples");
     check_refusals(&tally, [300, 40, 100, 300, 10, 10]);
     assert!(tally.drawn > 100);
 }
@@ -102,7 +107,7 @@ fn every_damage_of_the_sheets_of_the_document() {
             }
         }
     }
-    tally.print("damaged sheets of document 01, all there are");
+    tally.print("damaged sheets of document 01");
     check_refusals(&tally, [300, 200, 100, 500, 50, 50]);
     assert!(tally.drawn > 100 && tally.undrawn() > 50);
 }

@@ -22,7 +22,7 @@ fn all_sheets_within_very_small_limits() {
         compare_with_brute_force(&draft, &outcome);
         tally.add(&outcome);
     }
-    tally.print("very small, all there are");
+    tally.print("very small");
     assert_eq!((tally.sheets, tally.undrawn()), (27_208, 18_300));
     assert!(tally.drawn > 6_000 && tally.long > 1_000);
     assert_eq!((tally.narrowed, tally.without_width), (23_032, 4_176));
@@ -96,10 +96,9 @@ fn realistic_sheets() {
 }
 
 /// Compares sheets of full size in this many layers.
-fn compare_full(layers: u16) {
-    let kind = format!("full size, {layers} layers");
+fn compare_full(kind: &str, layers: u16) {
     let full = |random: &mut Random| sizes::full(random, layers);
-    let tally = Tally::of_random(&Proved, &kind, (110 + u64::from(layers), 200), full);
+    let tally = Tally::of_random(&Proved, kind, (110 + u64::from(layers), 200), full);
     assert_eq!(tally.drawn, 200 * scale());
     assert_eq!(tally.narrowed, tally.sheets);
     assert!(tally.long > tally.sheets / 2);
@@ -107,16 +106,16 @@ fn compare_full(layers: u16) {
 
 #[test]
 fn full_sheets_of_few_layers() {
-    compare_full(4);
-    compare_full(5);
-    compare_full(8);
+    compare_full("full size, 4 layers", 4);
+    compare_full("full size, 5 layers", 5);
+    compare_full("full size, 8 layers", 8);
 }
 
 #[test]
 fn full_sheets_of_many_layers() {
-    compare_full(16);
-    compare_full(32);
-    compare_full(64);
+    compare_full("full size, 16 layers", 16);
+    compare_full("full size, 32 layers", 32);
+    compare_full("full size, 64 layers", 64);
 }
 
 #[test]

@@ -54,12 +54,13 @@ impl Orders {
         own
     }
 
-    /// Prints the counts, and checks that most drawings are of other orders, with a list taken over.
-    fn check(&self, kind: &str) {
-        self.tally.print(&format!("orders of edges, {kind}"));
-        let most = self.tally.drawn / 2;
-        self.words
-            .check("lists in other orders of edges", most, 0, 0);
+    /// Checks that most drawings are of other orders, with a list taken over, and tells the counts, with
+    /// these lists.
+    fn check(&mut self, kind: &str) {
+        let Words { yes, no, refused } = self.words;
+        assert!(yes >= self.tally.drawn / 2 && no + refused == 0);
+        self.tally.yes += yes;
+        self.tally.print(kind);
     }
 }
 
@@ -72,7 +73,7 @@ fn full_sheets_in_each_order() {
             orders.compare(&draft);
         }
     }
-    orders.check("full size");
+    orders.check("orders of edges, full size");
     assert_eq!(orders.tally.drawn, orders.tally.sheets);
     assert!(orders.tally.long > orders.tally.sheets / 2);
 }
@@ -87,7 +88,7 @@ fn smaller_sheets_in_each_order() {
         };
         orders.compare(&draft);
     }
-    orders.check("small and medium");
+    orders.check("orders of edges, small and medium");
     assert!(orders.tally.long > 1_000 && orders.tally.undrawn() > 300);
 }
 
@@ -101,7 +102,7 @@ fn parallel_edges_in_each_order() {
         };
         orders.compare(&draft);
     }
-    orders.check("parallel");
+    orders.check("orders of edges, parallel");
     assert_eq!(orders.tally.drawn, orders.tally.sheets);
     assert!(orders.tally.long > orders.tally.sheets / 2);
 }
@@ -117,7 +118,7 @@ fn all_edges_in_the_first_or_in_the_last_pair_of_layers() {
             }
         }
     }
-    orders.check("all in one pair of layers");
+    orders.check("orders of edges, all in one pair of layers");
     assert_eq!(orders.tally.long, orders.tally.sheets);
 }
 
@@ -130,7 +131,7 @@ fn one_edge_in_each_pair_of_layers() {
             orders.compare(&draft);
         }
     }
-    orders.check("one in each pair of layers");
+    orders.check("orders of edges, one in each pair of layers");
     assert_eq!(orders.tally.drawn, orders.tally.sheets);
     assert!(orders.tally.long > orders.tally.sheets / 2);
 }
@@ -147,7 +148,7 @@ fn every_layer_adds_its_length() {
         assert_eq!(outcome.drawn, Ok((total.into(), places)));
     }
     assert_eq!(total, 126);
-    orders.check("each node with one place only");
+    orders.check("orders of edges, each node with one place only");
 }
 
 #[test]

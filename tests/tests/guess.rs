@@ -1,6 +1,7 @@
 //! The solver's guess is taken: no contract says so, since a guess that fails costs time only. Valgrind counts the
 //! instructions of `draw`, and a guess that fails takes more of them.
 
+use compare::page;
 use strip_tests::count::millions;
 use strip_tests::planted::{planted, Plan};
 use strip_tests::random::Random;
@@ -29,8 +30,11 @@ fn draws() {
 
 #[test]
 fn the_guess_is_taken() {
-    let count = (PLANS.len() * SHEETS) as f64;
-    let millions = millions(&["--ignored", "--exact", "draws"]).expect("valgrind") / count;
+    let count = PLANS.len() * SHEETS;
+    page::check_said(&format!(
+        "on {count} sheets of full size: fewer than {LIMIT} million for a sheet on average"
+    ));
+    let millions = millions(&["--ignored", "--exact", "draws"]).expect("valgrind") / count as f64;
     assert!(millions > 0.0, "nothing is counted");
     assert!(millions < LIMIT, "{millions} million instructions a sheet");
 }

@@ -11,6 +11,7 @@ use std::path::{Path, PathBuf};
 use std::process::{Command, Output, Stdio};
 use std::time::Duration;
 
+use compare::{grouped, page};
 use process::run;
 use strip_tests::declare;
 use strip_tests::driver::{calls, items, Item};
@@ -100,6 +101,20 @@ fn there_are_items_of_every_kind_and_size() {
     assert!(count("strip_check 0000000000000001") > 300);
     // no width has a drawing
     assert!(count(" 0000000a00000000") > 50);
+}
+
+#[test]
+fn the_page_tells_how_many_items_and_calls_there_are() {
+    let items = items();
+    let count = |is: fn(&&Item) -> bool| grouped(items.iter().filter(is).count());
+    let sheets = count(|item| matches!(item, Item::Sheet(_)));
+    let files = count(|item| matches!(item, Item::File(_)));
+    let lists = count(|item| matches!(item, Item::Numbers(_) | Item::Drawing(_)));
+    let calls = grouped(items.iter().flat_map(calls).count());
+    page::check_said(&format!(
+        "makes {sheets} sheets, {files} coordinate files and {lists} number lists"
+    ));
+    page::check_said(&format!("That makes {calls} calls."));
 }
 
 #[test]

@@ -7,7 +7,7 @@ use std::fs;
 use std::path::{Path, PathBuf};
 use std::process::Command;
 
-use compare::grouped;
+use compare::{grouped, page};
 use tools::{folder, functions, numbers, root, run_in, shared_library, NO_KIT};
 
 /// The pages, from the root of the repository; of the template of a note no path is one of a file.
@@ -187,6 +187,47 @@ fn functions_and_sizes_of_the_header_are_in_the_library_page() {
     for (name, number) in sizes {
         let row = format!(" | `STRIP_{name}`, {} |\n", grouped(number as usize));
         assert!(page.contains(&row), "{row}");
+    }
+}
+
+/// The code of the tests that compare.
+fn comparing() -> String {
+    let files = fs::read_dir(root().join("tests/tests")).expect("the tests");
+    let paths = files.map(|entry| entry.expect("a file").path());
+    let is_one = |path: &PathBuf| {
+        let name = path.file_name().expect("a name").to_string_lossy();
+        name.starts_with("compare_")
+    };
+    let texts = paths.filter(is_one).map(fs::read_to_string);
+    texts.collect::<Result<_, _>>().expect("the tests")
+}
+
+/// The sums of the rows of docs/TESTING.md with this many counts. Each other row has its test.
+fn sums(count: usize) -> Vec<usize> {
+    let (sums, rows): (Vec<_>, Vec<_>) = page::rows(count)
+        .into_iter()
+        .partition(|(name, _)| name == "all");
+    assert!(rows.len() > 20, "{}", rows.len());
+    let code = comparing();
+    for (name, _) in &rows {
+        assert!(code.contains(&format!("\"{name}\"")), "{name}: no test");
+    }
+    let sum = |i| rows.iter().map(|(_, counts)| counts[i]).sum();
+    let expected: Vec<usize> = (0..count).map(sum).collect();
+    assert_eq!(sums, [("all".to_string(), expected.clone())]);
+    expected
+}
+
+#[test]
+fn counts_of_what_is_compared_add_up_and_stand_on_one_page() {
+    let (sheets, calls) = (sums(7), sums(4));
+    for page in pages() {
+        // the notes of landings are of their date
+        if !page.ends_with("TESTING.md") && !page.starts_with("docs/landings") {
+            for sum in [&sheets[..2], &calls[..1]].concat() {
+                assert!(!text(&page).contains(&grouped(sum)), "{page:?}: {sum}");
+            }
+        }
     }
 }
 

@@ -1,4 +1,5 @@
-//! The functions use no more stack than the header says, on sheets of full size.
+//! The functions use no more stack than the header and the page of the library say, on sheets of full
+//! size.
 
 mod tools;
 
@@ -7,7 +8,7 @@ use std::process::Command;
 
 use strip_tests::planted::{planted, Plan};
 use strip_tests::random::Random;
-use tools::{compiler, folder, functions, output, LIBRARY};
+use tools::{compiler, folder, functions, output, root, LIBRARY};
 
 /// Sheets of full size, some of each kind.
 fn sheets() -> Vec<Vec<u8>> {
@@ -46,9 +47,24 @@ fn name_and_bytes(line: &str) -> (&str, usize) {
     (name, bytes.parse().expect("a number"))
 }
 
+/// The bytes that docs/LIBRARY.md says of a function, in the last row that has its name.
+fn said_of(name: &str) -> usize {
+    let page = fs::read_to_string(root().join("docs/LIBRARY.md")).expect("the page");
+    let start = format!("| `{name}` | ");
+    let row = page.lines().rfind(|line| line.starts_with(&start));
+    let cell = row.and_then(|row| row[start.len()..].strip_suffix(" |"));
+    let bytes = cell.and_then(|cell| cell.replace(',', "").parse().ok());
+    bytes.unwrap_or_else(|| panic!("no stack of {name}"))
+}
+
 #[test]
-fn stack_is_as_the_header_says() {
+fn stack_is_as_the_header_and_the_page_say() {
     let printed = measure(&sheets());
+    for (name, bytes) in printed.lines().map(name_and_bytes) {
+        // not less, and not much more
+        let said = said_of(name);
+        assert!(bytes <= said && said < bytes + 1024, "{name}: {bytes}");
+    }
     let (mut names, stacks): (Vec<&str>, Vec<usize>) = printed.lines().map(name_and_bytes).unzip();
     names.sort_unstable();
     assert_eq!(names, functions());

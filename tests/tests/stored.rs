@@ -4,7 +4,8 @@
 use std::fs;
 use std::path::Path;
 
-use strip_tests::cases::{draw, input, lines, stored, Line};
+use compare::page;
+use strip_tests::cases::{draw, input, lines, stored, Group, Line};
 
 /// The commands that write the stored files anew, from the root of the repository.
 const REWRITE: &str = "cargo run --release --bin cases > crates/library_test/stdin; \
@@ -27,6 +28,12 @@ fn stored_input_is_up_to_date() {
     let differing = both.position(|(stored, computed)| stored != computed);
     assert_eq!(differing, None, "write it with: {REWRITE}");
     assert!(stored == computed, "write it with: {REWRITE}");
+}
+
+#[test]
+fn the_page_tells_how_many_cases_are_stored() {
+    let count = stored().iter().flat_map(Group::calls).count();
+    page::check_said(&format!("answers the {count} cases in "));
 }
 
 #[test]

@@ -11,6 +11,7 @@ mod format;
 mod library;
 mod narrowest;
 mod near;
+pub mod page;
 mod tally;
 
 use second::drawing::Sheet;

@@ -2,7 +2,7 @@
 
 use std::env;
 
-use crate::{sheet, Library, Outcome};
+use crate::{page, sheet, Library, Outcome};
 use second::refusal::{Refusal, NO_DRAWING, NO_WIDTH};
 use strip_tests::draft::Draft;
 use strip_tests::random::Random;
@@ -38,7 +38,7 @@ pub struct Tally {
 }
 
 impl Tally {
-    /// Compares sheets as they come, and prints the counts.
+    /// Compares sheets as they come, and tells the counts.
     pub fn of(library: &impl Library, kind: &str, drafts: impl Iterator<Item = Draft>) -> Tally {
         let mut tally = Tally::default();
         for draft in drafts {
@@ -83,7 +83,7 @@ impl Tally {
         }
     }
 
-    /// Prints a line with all counts.
+    /// Prints a line with all counts, and checks those that the page has.
     pub fn print(&self, kind: &str) {
         let mut line = format!("compared: {} {kind}", grouped(self.sheets));
         line += &format!(": {} drawn", grouped(self.drawn));
@@ -96,6 +96,22 @@ impl Tally {
         line += &format!("; minimum width: {narrowed} told, {without} refused {NO_WIDTH}");
         let (yes, no) = (grouped(self.yes), grouped(self.no));
         println!("{line}; checked: {yes} yes, {no} no");
+        page::check_row(kind, &self.row());
+    }
+
+    /// The counts as the page has them.
+    fn row(&self) -> [usize; 7] {
+        let refused = self.sheets - self.drawn;
+        let (narrowed, without) = (self.narrowed, self.without_width);
+        [
+            self.sheets,
+            self.drawn,
+            refused,
+            narrowed,
+            without,
+            self.yes,
+            self.no,
+        ]
     }
 }
 

@@ -1,6 +1,6 @@
 //! What readers and writers answer, counted.
 
-use compare::{grouped, read_into, write_into, Format, Library};
+use compare::{grouped, page, read_into, write_into, Format, Library};
 use second::refusal::Refusal;
 
 /// Counts of answers by the number of the refusal; 0 is none.
@@ -30,9 +30,10 @@ impl Answers {
         }
     }
 
-    /// Prints the counts, and checks that answers have come up this many times.
+    /// Prints the counts, and checks that the page has them and that answers have come up this many times.
     pub fn check(&self, kind: &str, least: &[(usize, usize)]) {
-        let mut line = format!("compared: {} {kind}", grouped(self.0.iter().sum()));
+        let sum = self.0.iter().sum();
+        let mut line = format!("compared: {} {kind}", grouped(sum));
         for (number, &count) in self.0.iter().enumerate() {
             match (number, count) {
                 (_, 0) => continue,
@@ -41,6 +42,7 @@ impl Answers {
             }
         }
         println!("{line}");
+        page::check_row(kind, &[sum, self.0[0], 0, sum - self.0[0]]);
         for &(number, least) in least {
             assert!(self.0[number] >= least, "{number}: {}", self.0[number]);
         }

@@ -1,6 +1,6 @@
 //! Drawings of the library, and what both checkers say to places and lists.
 
-use compare::{grouped, judge, Library, Proved};
+use compare::{grouped, judge, page, Library, Proved};
 use second::certificate;
 use second::drawing::Sheet;
 use strip_tests::draft::Draft;
@@ -49,12 +49,14 @@ impl Words {
         word == Ok(true)
     }
 
-    /// Prints the counts, and checks that each word has been said this many times.
+    /// Prints the counts, and checks that the page has them and that each word has been said this many
+    /// times.
     pub fn check(&self, kind: &str, yes: usize, no: usize, refused: usize) {
-        let words = [self.yes, self.no, self.refused].map(grouped);
-        let sum = grouped(self.yes + self.no + self.refused);
-        let [said_yes, said_no, said_refused] = words;
+        let sum = self.yes + self.no + self.refused;
+        let row = [sum, self.yes, self.no, self.refused];
+        let [sum, said_yes, said_no, said_refused] = row.map(grouped);
         println!("compared: {sum} {kind}: {said_yes} yes, {said_no} no, {said_refused} refused");
+        page::check_row(kind, &row);
         assert!(self.yes >= yes && self.no >= no && self.refused >= refused);
     }
 }
