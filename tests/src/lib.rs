@@ -17,3 +17,4 @@ pub mod mutation;
 pub mod planted;
 pub mod random;
 pub mod traps;
+pub mod vectors;

@@ -12,7 +12,9 @@ use tools::{folder, functions, numbers, root, run_in, shared_library, NO_KIT};
 
 /// The pages, from the root of the repository; of the template of a note no path is one of a file.
 fn pages() -> Vec<PathBuf> {
-    let mut pages = vec!["README.md".into(), "CHANGELOG.md".into()];
+    let mut pages: Vec<PathBuf> = ["README.md", "CHANGELOG.md", "vectors/README.md"]
+        .map(PathBuf::from)
+        .to_vec();
     for folder in ["docs", "docs/landings"] {
         for entry in fs::read_dir(root().join(folder)).expect("the pages") {
             let name = entry.expect("a page").file_name();
@@ -77,6 +79,7 @@ fn paths_that_are_named_are_there() {
         "examples/",
         "bindings/",
         "fuzz/",
+        "vectors/",
     ];
     let mut count = 0;
     for page in pages() {
