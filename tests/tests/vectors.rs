@@ -1,42 +1,20 @@
 //! The vectors: the stored files are what the program `vectors` writes, the library gives every answer,
 //! every example of the documents is there, and the runner tells right answers from wrong ones.
 
+mod asked;
 mod tools;
 
 use std::collections::BTreeMap;
-use std::fmt::Display;
 use std::fs;
 use std::process::Command;
 
-use strip::Refusal;
+use asked::{answered, cases, stored};
+use compare::Proved;
 use strip_tests::vectors::{files, CALLS};
 use tools::{header, python, root, run_in, shared_library};
 
 /// The command that writes the files anew, from the root of the repository.
 const REWRITE: &str = "cargo run --release --bin vectors -- vectors";
-
-/// The stored files, by their names.
-fn stored() -> BTreeMap<String, String> {
-    let mut files = BTreeMap::new();
-    for entry in fs::read_dir(root().join("vectors")).expect("the vectors") {
-        let path = entry.expect("a file").path();
-        if path.extension().is_some_and(|ending| ending == "txt") {
-            let name = path.file_name().expect("a name").to_string_lossy();
-            let text = fs::read_to_string(&path).expect("a text");
-            files.insert(name.into_owned(), text);
-        }
-    }
-    files
-}
-
-/// The cases of a file: each question with its answer.
-fn cases(text: &str) -> Vec<(&str, &str)> {
-    let lines = text.lines().filter(|line| !line.starts_with('#'));
-    let case = |line: &'_ str| line.find(" = ").expect("a question and an answer");
-    lines
-        .map(|line| (&line[..case(line)], &line[case(line) + 3..]))
-        .collect()
-}
 
 #[test]
 fn stored_files_are_up_to_date() {
@@ -54,103 +32,12 @@ fn stored_files_are_up_to_date() {
     }
 }
 
-/// The numbers of a field.
-fn numbers<T: std::str::FromStr>(field: &str) -> Vec<T> {
-    let number = |text: &str| {
-        text.parse()
-            .unwrap_or_else(|_| panic!("no number: {field}"))
-    };
-    field
-        .split(',')
-        .filter(|text| *text != "-")
-        .map(number)
-        .collect()
-}
-
-/// The bytes of a field.
-fn bytes(field: &str) -> Vec<u8> {
-    let digits = field.trim_start_matches('-');
-    assert_eq!(digits.len() % 2, 0, "{field}");
-    let byte = |at| u8::from_str_radix(&digits[at..at + 2], 16).expect("a byte");
-    (0..digits.len()).step_by(2).map(byte).collect()
-}
-
-/// Numbers as a field.
-fn listed<T: Display>(numbers: &[T]) -> String {
-    let numbers: Vec<String> = numbers.iter().map(T::to_string).collect();
-    match &numbers[..] {
-        [] => "-".to_string(),
-        _ => numbers.join(","),
-    }
-}
-
-/// Bytes as a field.
-fn digits(bytes: &[u8]) -> String {
-    bytes.iter().map(|byte| format!("{byte:02x}")).collect()
-}
-
-/// The front of a slice of so many elements that a call fills.
-fn filled<T: Clone + Default>(
-    room: &str,
-    call: impl Fn(&mut [T]) -> Result<usize, Refusal>,
-) -> Result<Vec<T>, Refusal> {
-    let mut slice = vec![T::default(); room.parse().expect("a length")];
-    let count = call(&mut slice)?;
-    slice.truncate(count);
-    Ok(slice)
-}
-
-/// The total and the places of the library's drawing.
-fn drawn(room: &str, list_room: &str, sheet: &[u8]) -> Result<String, Refusal> {
-    let length = |room: &str| room.parse::<usize>().expect("a length");
-    let (mut places, mut list) = (vec![0; length(room)], vec![0; length(list_room)]);
-    let total = strip::draw(sheet, &mut places, &mut list)?;
-    let mut numbers = [0; strip::MAX_NUMBERS];
-    strip::read(sheet, &mut numbers)?;
-    let (mut at, mut nodes) = (2, 0);
-    for _ in 0..numbers[1] {
-        nodes += usize::from(numbers[at]);
-        at += 2 * usize::from(numbers[at]) - 1;
-    }
-    Ok(format!("{total} {}", listed(&places[..nodes])))
-}
-
-/// The answer of the library to a question.
-fn answered(question: &str) -> String {
-    let fields: Vec<&str> = question.split(' ').collect();
-    let answer =
-        match fields[..] {
-            ["read", room, sheet] => {
-                filled(room, |slice| strip::read(&bytes(sheet), slice)).map(|found| listed(&found))
-            }
-            ["write", room, list] => filled(room, |slice| strip::write(&numbers(list), slice))
-                .map(|found| digits(&found)),
-            ["draw", room, list_room, sheet] => drawn(room, list_room, &bytes(sheet)),
-            ["check", sheet, places, list] => {
-                let word = strip::check(&bytes(sheet), &numbers(places), &numbers(list));
-                word.map(|yes| if yes { "yes" } else { "no" }.to_string())
-            }
-            ["narrowest", sheet] => strip::narrowest(&bytes(sheet))
-                .map(|found| format!("{} {}", found.width, found.total)),
-            ["read_drawing", room, file] => {
-                let found = filled(room, |slice| strip::read_drawing(&bytes(file), slice));
-                found.map(|found| listed(&found))
-            }
-            ["write_drawing", room, list] => {
-                let found = filled(room, |slice| strip::write_drawing(&numbers(list), slice));
-                found.map(|found| digits(&found))
-            }
-            _ => panic!("no question: {question}"),
-        };
-    answer.unwrap_or_else(|refusal| format!("refused {} at {}", refusal.number, refusal.offset))
-}
-
 #[test]
 fn the_library_gives_every_answer() {
     let mut count = 0;
     for (name, text) in stored() {
         for (question, answer) in cases(&text) {
-            assert_eq!(answered(question), answer, "{name}: {question}");
+            assert_eq!(answered(&Proved, question), answer, "{name}: {question}");
             assert!(
                 question.starts_with(&name.replace(".txt", " ")),
                 "{question}"
