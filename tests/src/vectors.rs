@@ -74,10 +74,11 @@ fn vectors() -> Vec<Vector> {
 fn by_hand(group: &Group) -> Vec<Vector> {
     let thinned = THINNED.iter().find(|(name, _)| *name == group.name);
     let step = thinned.map_or(1, |&(_, step)| step);
-    let (mut note, mut vectors) = (group.name.to_string(), Vec::new());
+    let name = without_word(group.name);
+    let (mut note, mut vectors) = (name.to_string(), Vec::new());
     for line in &group.lines[1..] {
         match line {
-            Line::Note(text) => note = format!("{}: {}", group.name, without_word(text)),
+            Line::Note(text) => note = format!("{name}: {}", without_word(text)),
             Line::Case(call) => vectors.push(Vector {
                 note: note.clone(),
                 call: call.clone(),

@@ -3,7 +3,7 @@
 use crate::cases::Call;
 use crate::damage::DAMAGES;
 use crate::draft::Draft;
-use crate::files::{any, Rows};
+use crate::files::{any, encode_file, Rows};
 use crate::generate::{good, small};
 use crate::mutation::near_list;
 use crate::random::Random;
@@ -20,6 +20,7 @@ pub fn vectors() -> Vec<Vector> {
     let mut random = Random::new(39);
     let mut vectors = sheets(&mut random);
     vectors.extend(damaged_sheets(&mut random));
+    vectors.extend(places());
     vectors.extend(drawings(&mut random));
     vectors.extend(damaged_files(&mut random));
     vectors
@@ -70,6 +71,20 @@ fn damaged_sheets(random: &mut Random) -> Vec<Vector> {
         vectors.extend(noted(&format!("damaged sheets: {name}"), calls));
     }
     vectors
+}
+
+/// Places and distances of coordinate files on either side of each limit.
+fn places() -> Vec<Vector> {
+    let mut calls = Vec::new();
+    for place in [0, 4094, 4095, 4096] {
+        let first = [1, 1, place];
+        calls.extend([read_file(&encode_file(&first)), write_file(&first)]);
+        calls.push(write_file(&[1, 2, 4094, place]));
+    }
+    for distance in [0, 1, 2] {
+        calls.push(read_file(&encode_file(&[1, 2, 4094, distance])));
+    }
+    noted("places on either side of each limit", calls)
 }
 
 /// The coordinate files of the drawings of random sheets, read and written.
