@@ -62,7 +62,7 @@ fn shorten(distances: &mut [Option<i64>], residuals: &[Residual]) -> bool {
             continue;
         };
         let distance = rest + residual.cost;
-        if distances[residual.tail].is_none_or(|known| distance < known) {
+        if distances[residual.tail].map_or(true, |known| distance < known) {
             distances[residual.tail] = Some(distance);
             is_changed = true;
         }
