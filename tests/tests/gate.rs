@@ -1,14 +1,10 @@
 //! The gate, `.ci/run`, in a small repository of its own with a kit and a cargo that only talk: where
 //! all is well its last line is that of `rt ci`, and any fault gives a status and another last line.
 
+mod fakes;
 mod tools;
 
-use std::env;
-use std::fs;
-use std::path::{Path, PathBuf};
-use std::process::Command;
-
-use tools::{folder, root, run_in};
+use fakes::Repository;
 
 /// What `rt ci` says last where all is well.
 const VERDICT: &str = "76 passed, 0 failed";
@@ -17,6 +13,7 @@ const VERDICT: &str = "76 passed, 0 failed";
 const KIT: &str = r#"
 echo "rt $*" >> asked
 case $1 in
+version) cat .ci/kit ;;
 ci) rm -rf target; mkdir target; echo "rt: ok, all proved"; echo "76 passed, 0 failed" ;;
 staticlib) mkdir -p target/staticlib ;;
 esac
@@ -52,7 +49,7 @@ const KIT_FAULTS: [(&str, &str); 7] = [
 ];
 
 /// Faults of cargo: what is wrong, and what it does before or in place of the above.
-const CARGO_FAULTS: [(&str, &str); 4] = [
+const CARGO_FAULTS: [(&str, &str); 6] = [
     (
         "a Rust test fails",
         "echo 'test result: FAILED. 2 passed; 1 failed'; exit 101",
@@ -67,77 +64,57 @@ const CARGO_FAULTS: [(&str, &str); 4] = [
         "for name in one two; do echo \" Running tests/$name.rs (x)\"
         echo 'test result: ok. 0 passed; 0 failed'; done; exit 0",
     ),
+    (
+        "a test is ignored",
+        "echo 'test result: ok. 3 passed; 0 failed; 1 ignored; 0 measured; 0 filtered out'",
+    ),
+    (
+        "a test is filtered out",
+        "echo 'test result: ok. 3 passed; 0 failed; 0 ignored; 0 measured; 1 filtered out'",
+    ),
 ];
 
-/// A small repository.
-struct Repository {
-    folder: PathBuf,
+/// What the fake cargo answers first: the test of tools asks for its version.
+const CARGO_VERSION: &str = "[ \"$1\" != --version ] || { echo cargo 1.78.0; exit 0; }\n";
+
+/// A repository with two test files, in which all is well.
+fn repository(name: &str) -> Repository {
+    let repository = Repository::new(&format!("gate-{name}"));
+    repository.command("rt", KIT);
+    repository.command("cargo", &format!("{CARGO_VERSION}{CARGO}"));
+    repository.program("tests/tests/one.rs", "");
+    repository.program("tests/tests/two.rs", "");
+    repository
 }
 
-impl Repository {
-    /// One with the gate and two test files, in which all is well.
-    fn new(name: &str) -> Repository {
-        let folder = folder(&format!("gate-{name}"));
-        let repository = Repository { folder };
-        let gate = fs::read_to_string(root().join(".ci/run")).expect("the gate");
-        repository.program(".ci/run", &gate);
-        repository.program("tools/rt", &format!("#!/bin/sh{KIT}"));
-        repository.program("tools/cargo", &format!("#!/bin/sh{CARGO}"));
-        repository.program("tests/tests/one.rs", "");
-        repository.program("tests/tests/two.rs", "");
-        fs::create_dir(repository.path("tmp")).expect("a folder can be made");
-        repository
-    }
-
-    /// The path of a file here.
-    fn path(&self, file: &str) -> PathBuf {
-        self.folder.join(file)
-    }
-
-    /// Writes a file that can be run, and the folders that it is in.
-    fn program(&self, file: &str, text: &str) {
-        let path = self.path(file);
-        fs::create_dir_all(path.parent().expect("a folder")).expect("folders can be made");
-        fs::write(&path, text).expect(file);
-        let changed = run_in(Path::new("/"), Command::new("chmod").arg("755").arg(&path));
-        assert!(changed.status.success(), "{changed:?}");
-    }
-
-    /// Runs the gate with the commands here before the others: whether it ends well, and what it
-    /// says, all on its standard output.
-    fn run(&self) -> (bool, String) {
-        let old = env::var("PATH").expect("a PATH");
-        let mut gate = Command::new(self.path(".ci/run"));
-        gate.env("PATH", format!("{}:{old}", self.path("tools").display()));
-        gate.env("TMPDIR", self.path("tmp"));
-        let output = run_in(Path::new("/"), &mut gate);
-        assert!(output.stderr.is_empty(), "{output:?}");
-        let said = String::from_utf8_lossy(&output.stdout).into_owned();
-        (output.status.success(), said)
-    }
+/// Runs the gate: whether it ends well, and what it says, all on its standard output.
+fn run(repository: &Repository) -> (bool, String) {
+    let (success, [said, errors]) = repository.run(".ci/run", &[], &[]);
+    assert_eq!(errors, "");
+    (success, said)
 }
 
 #[test]
 fn last_line_is_that_of_rt_ci() {
-    let repository = Repository::new("well");
-    let (success, said) = repository.run();
+    let repository = repository("well");
+    let (success, said) = run(&repository);
     assert!(success, "{said}");
-    assert_eq!(said.lines().last(), Some(VERDICT));
+    let lines: Vec<&str> = said.lines().rev().take(2).collect();
+    assert_eq!(lines, [VERDICT, ".ci/run: 0 tests were skipped"]);
     assert!(said.contains("rt: ok, all proved"));
     assert_eq!(said.matches("test result: ok.").count(), 2);
-    let asked = fs::read_to_string(repository.path("asked")).expect("what is asked");
-    let expected = "rt ci\nrt staticlib strip\ncargo test --release --offline --locked\n";
-    assert_eq!(asked, expected);
-    let left = fs::read_dir(repository.path("tmp")).expect("a folder");
-    assert_eq!(left.count(), 0, "files are left in the temporary folder");
+    let expected =
+        "rt version\nrt ci\nrt staticlib strip\ncargo test --release --offline --locked\n";
+    assert_eq!(repository.asked(), expected);
+    repository.check_nothing_left();
 }
 
 /// Runs the gate with a fault: it must have a status, and say last what is wrong.
 fn check_fault(fault: &str, command: &str, text: &str) {
     let name = format!("{command} {fault}").replace(' ', "-");
-    let repository = Repository::new(&name);
-    repository.program(&format!("tools/{command}"), &format!("#!/bin/sh\n{text}"));
-    let (success, said) = repository.run();
+    let repository = repository(&name);
+    repository.command(command, text);
+    let (success, said) = run(&repository);
     assert!(!success, "{command}, {fault}: {said}");
     let last = said.lines().last().expect("a line");
     assert!(last.starts_with(".ci/run: "), "{command}, {fault}: {said}");
@@ -162,6 +139,38 @@ fn a_library_that_is_not_built_is_told() {
 #[test]
 fn faults_of_the_rust_tests_are_told() {
     for (fault, text) in CARGO_FAULTS {
-        check_fault(fault, "cargo", &format!("{text}{CARGO}"));
+        check_fault(fault, "cargo", &format!("{CARGO_VERSION}{text}{CARGO}"));
     }
+}
+
+#[test]
+fn skipped_tests_are_counted() {
+    let repository = repository("skipped");
+    let tests = CARGO.replace("0 ignored", "2 ignored");
+    repository.command("cargo", &format!("{CARGO_VERSION}{tests}"));
+    let (success, said) = run(&repository);
+    assert!(!success, "{said}");
+    let last = said.lines().last();
+    assert_eq!(last, Some(".ci/run: 4 tests were skipped"));
+}
+
+#[test]
+fn missing_tools_are_told_before_any_proof() {
+    let repository = repository("tools");
+    let missing = ["valgrind", "clang", "pkg-config"];
+    for name in missing {
+        repository.hide(name);
+    }
+    repository.user(0); // who could install them
+    repository.command("apt-get", "echo \"apt-get $*\" >> asked\n");
+    let (success, said) = run(&repository);
+    assert!(!success, "{said}");
+    for name in missing {
+        let line = format!("\n    {name:11} is not on the PATH; Debian: {name}\n");
+        assert!(said.contains(&line), "{said}");
+    }
+    let last = said.lines().last();
+    assert_eq!(last, Some(".ci/run: something is missing, see above"));
+    assert_eq!(repository.asked(), "rt version\n");
+    repository.check_nothing_left();
 }

@@ -13,9 +13,8 @@ const PLANS: [Plan; 3] = [Plan::FULL_TIGHT, Plan::FULL_LOOSE, Plan::FULL_WIDE];
 /// More millions of instructions than a sheet takes whose guess is taken, on average.
 const LIMIT: f64 = 3.2;
 
-/// Draws the sheets; this is what valgrind runs.
+/// Draws the sheets; the test below runs this one under valgrind.
 #[test]
-#[ignore = "the test below runs it under valgrind"]
 fn draws() {
     let mut random = Random::new(26);
     let mut places = [0; strip::MAX_PLACES];
@@ -34,7 +33,7 @@ fn the_guess_is_taken() {
     page::check_said(&format!(
         "on {count} sheets of full size: fewer than {LIMIT} million for a sheet on average"
     ));
-    let millions = millions(&["--ignored", "--exact", "draws"]).expect("valgrind") / count as f64;
+    let millions = millions(&["--exact", "draws"]).expect("valgrind") / count as f64;
     assert!(millions > 0.0, "nothing is counted");
     assert!(millions < LIMIT, "{millions} million instructions a sheet");
 }
