@@ -14,13 +14,19 @@ use tools::{compiler, folder, functions, make, output, root, shared_library};
 /// Where the files go, below the folder of the test.
 const PREFIX: &str = "/prefix";
 /// The files with their modes; a link has none.
-const FILES: [(&str, Option<u32>); 6] = [
+const FILES: [(&str, Option<u32>); 12] = [
     ("bin/place", Some(0o755)),
     ("include/strip.h", Some(0o644)),
+    ("lib/cmake/strip/strip-config-version.cmake", Some(0o644)),
+    ("lib/cmake/strip/strip-config.cmake", Some(0o644)),
     ("lib/libstrip.a", Some(0o644)),
     ("lib/libstrip.so", None),
     ("lib/libstrip.so.0", Some(0o755)),
     ("lib/pkgconfig/strip.pc", Some(0o644)),
+    ("share/doc/strip/FORMAT.md", Some(0o644)),
+    ("share/doc/strip/LIBRARY.md", Some(0o644)),
+    ("share/doc/strip/LICENSE", Some(0o644)),
+    ("share/doc/strip/REFUSALS.md", Some(0o644)),
 ];
 
 /// Where a file goes, with a folder as the root of the file system.
@@ -72,14 +78,13 @@ fn flags(folder: &Path) -> String {
         .replace("${libdir}", &below("libdir="))
 }
 
-/// The same, as pkg-config says; nothing where it is not installed.
-fn pkg_config_flags(folder: &Path) -> Option<String> {
-    Command::new("pkg-config").arg("--version").output().ok()?;
+/// The same, as pkg-config says.
+fn pkg_config_flags(folder: &Path) -> String {
     let mut command = Command::new("pkg-config");
     command.args(["--cflags", "--libs", "strip"]);
     command.env("PKG_CONFIG_LIBDIR", place(folder, "lib/pkgconfig"));
     let flags = output(command.env("PKG_CONFIG_SYSROOT_DIR", folder));
-    Some(flags.trim().to_string())
+    flags.trim().to_string()
 }
 
 /// The names that a shared library exports.
@@ -95,6 +100,11 @@ fn check_draws(program: &Path, flags: &[&str], libraries: &Path) {
     let mut compiler = compiler("gcc", "c99");
     compiler.arg("examples/draw.c").args(flags);
     output(compiler.arg("-o").arg(program));
+    check_program(program, libraries);
+}
+
+/// Checks that a program draws, with the folder of the shared library.
+fn check_program(program: &Path, libraries: &Path) {
     let drawing = fs::read_to_string(root().join("examples/first.txt")).expect("a stored drawing");
     let mut command = Command::new(program);
     command.arg("examples/first.sheet");
@@ -111,9 +121,7 @@ fn is_shared(program: &Path) -> bool {
 /// Checks that a program can be built with the shared library, as strip.pc says.
 fn check_shared(folder: &Path) {
     let flags = flags(folder);
-    if let Some(other) = pkg_config_flags(folder) {
-        assert_eq!(other, flags);
-    }
+    assert_eq!(pkg_config_flags(folder), flags);
     let flags: Vec<&str> = flags.split(' ').collect();
     let program = folder.with_file_name("shared");
     check_draws(&program, &flags, &place(folder, "lib"));
@@ -129,6 +137,62 @@ fn check_static(folder: &Path) {
     assert!(!is_shared(&program));
 }
 
+/// The command cmake for a folder with its CMakeLists.txt, with the files below another folder.
+fn cmake(source: &Path, build: &Path, folder: &Path) -> Command {
+    let mut command = Command::new("cmake");
+    command.arg("-S").arg(source).arg("-B").arg(build);
+    let prefix = place(folder, "").display().to_string();
+    command.arg(format!("-DCMAKE_PREFIX_PATH={prefix}"));
+    command
+}
+
+/// Checks that CMake builds the example with both libraries.
+fn check_cmake(folder: &Path) {
+    let build = folder.with_file_name("cmake");
+    output(&mut cmake(Path::new("examples"), &build, folder));
+    output(Command::new("cmake").arg("--build").arg(&build));
+    for (name, shared) in [("draw", true), ("draw_static", false)] {
+        let program = build.join(name);
+        check_program(&program, Path::new(""));
+        assert_eq!(is_shared(&program), shared, "{name}");
+    }
+}
+
+/// Checks which versions CMake takes this one for: the same MAJOR.MINOR and no later PATCH.
+fn check_versions(folder: &Path) {
+    let numbers: Vec<u32> = strip::VERSION
+        .split('.')
+        .map(|number| number.parse().expect("a number"))
+        .collect();
+    let [major, minor, patch] = numbers[..] else {
+        panic!("{numbers:?}");
+    };
+    let asked = [
+        (String::new(), 1),
+        (format!("{major}.{minor}"), 1),
+        (format!("{major}.{minor}.{patch}"), 1),
+        (format!("{major}.{minor}.{patch} EXACT"), 1),
+        (format!("{major}.{minor}.{}", patch + 1), 0),
+        (format!("{major}.{}", minor + 1), 0),
+        (format!("{}.{minor}", major + 1), 0),
+    ];
+    let mut text = "cmake_minimum_required(VERSION 3.13)\nproject(versions C)\n".to_string();
+    let mut expected = Vec::new();
+    for (version, found) in asked {
+        text += &format!("unset(strip_DIR CACHE)\nfind_package(strip {version} QUIET)\n");
+        text += &format!("message(STATUS \"found '{version}': ${{strip_FOUND}}\")\n");
+        expected.push(format!("-- found '{version}': {found}"));
+    }
+    let source = folder.with_file_name("versions");
+    fs::create_dir(&source).expect("a folder can be made");
+    fs::write(source.join("CMakeLists.txt"), text).expect("a file can be written");
+    let printed = output(&mut cmake(&source, &source.join("build"), folder));
+    let lines = printed
+        .lines()
+        .filter(|line| line.starts_with("-- found '"));
+    assert_eq!(lines.collect::<Vec<_>>(), expected);
+}
+
 #[test]
 fn installed_files_serve_and_go_again() {
     shared_library();
@@ -141,6 +205,11 @@ fn installed_files_serve_and_go_again() {
     assert_eq!(names, functions());
     check_shared(&folder);
     check_static(&folder);
+    check_cmake(&folder);
+    check_versions(&folder);
     make_below(&folder, "uninstall");
     assert_eq!(files(&folder), BTreeMap::new());
+    for name in ["lib/cmake/strip", "share/doc/strip"] {
+        assert!(!place(&folder, name).exists(), "{name}");
+    }
 }

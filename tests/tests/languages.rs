@@ -10,6 +10,7 @@ use std::process::{Command, Stdio};
 use second::printed::printed;
 use second::sheet::PLAIN;
 use strip_tests::document::{crossing, stair, NO_DRAWING, REFUSED};
+use strip_tests::draft::Draft;
 use strip_tests::examples::examples;
 use tools::{compiler, folder, output, python, root, run_in, shared_library, LIBRARY};
 
@@ -28,9 +29,15 @@ fn check_ends(command: &mut Command, status: i32, printed: &str, errors: usize) 
 
 /// Checks an example on good and bad sheets, and on files that cannot be read.
 fn check_draws(name: &str, example: impl Fn() -> Command) {
+    check_draws_and(name, example, |_| String::new());
+}
+
+/// Checks an example that prints more behind a drawing.
+fn check_draws_and(name: &str, example: impl Fn() -> Command, more: impl Fn(&Draft) -> String) {
     for (name, draft) in examples() {
         let path = format!("examples/{name}.sheet");
-        check_ends(example().arg(path), 0, &printed(&draft.bytes()), 0);
+        let text = printed(&draft.bytes()) + &more(&draft);
+        check_ends(example().arg(path), 0, &text, 0);
     }
     let folder = folder(&format!("languages-sheets-{name}"));
     let file = folder.join("refused.sheet");
@@ -69,6 +76,33 @@ fn c_example_draws() {
         let program = compiled(name, "c99", "examples/draw.c");
         check_draws(name, || Command::new(&program));
         check_full(Command::new(&program));
+    }
+}
+
+/// What examples/check.c prints behind a drawing: the library's list, and a yes.
+fn list_and_word(draft: &Draft) -> String {
+    let (mut places, mut list) = ([0; strip::MAX_PLACES], [0; strip::MAX_LIST]);
+    strip::draw(&draft.bytes(), &mut places, &mut list).expect("a drawing");
+    let mut rest = list.iter();
+    let mut numbers = |count| -> String {
+        let numbers = rest.by_ref().take(count);
+        numbers.map(|number| format!(" {number}")).collect()
+    };
+    let mut text = format!("pulls of the edges:{}\n", numbers(draft.edges.len()));
+    for (i, separations) in draft.layers.iter().enumerate() {
+        let pushes = numbers(2 * separations.len() + 2);
+        text += &format!("pushes of layer {}:{pushes}\n", i + 1);
+    }
+    text + "checked: yes\n"
+}
+
+#[test]
+fn c_example_checks() {
+    for name in ["gcc", "clang"] {
+        let program = compiled(name, "c99", "examples/check.c");
+        let example = || Command::new(&program);
+        check_draws_and(&format!("{name}-check"), example, list_and_word);
+        check_full(example());
     }
 }
 

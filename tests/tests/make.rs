@@ -2,6 +2,7 @@
 
 mod tools;
 
+use std::collections::BTreeMap;
 use std::fs::{self, File};
 use std::path::{Path, PathBuf};
 use std::process::{Command, Output};
@@ -22,13 +23,25 @@ esac
 /// The gate of these tests.
 const GATE: &str = "#!/bin/sh\necho 1 passed, 0 failed\n";
 
+/// The test of tools of these tests: it keeps what it is asked, and something is missing if a file
+/// says so.
+const NEEDS: &str = "#!/bin/sh\necho \"needs $*\" >> asked\n[ ! -e missing ]\n";
+
 /// Files of the repository that the Makefile uses.
-const FILES: [&str; 5] = [
+const FILES: [&str; 13] = [
     "Makefile",
     "crates.txt",
     "crates/strip/include/strip.h",
     "crates/strip/strip.pc.in",
+    "crates/strip/strip-config.cmake.in",
+    "crates/strip/strip-config-version.cmake.in",
     "crates/strip/exports.map",
+    "examples/check.c",
+    "examples/panel.sheet",
+    "LICENSE",
+    "docs/FORMAT.md",
+    "docs/REFUSALS.md",
+    "docs/LIBRARY.md",
 ];
 
 /// Sources of the library, of the program, and of both.
@@ -63,7 +76,8 @@ impl Repository {
             repository.write(file, b"");
         }
         repository.write("rt", KIT.as_bytes());
-        repository.gate();
+        repository.program(".ci/run", GATE);
+        repository.program(".ci/needs", NEEDS);
         repository.archive(1);
         repository
     }
@@ -75,16 +89,16 @@ impl Repository {
         fs::write(path, contents).expect(file);
     }
 
-    /// Writes the gate, a program.
-    fn gate(&self) {
-        self.write(".ci/run", GATE.as_bytes());
-        self.output(Command::new("chmod").args(["755", ".ci/run"]));
+    /// Writes a file that can be run.
+    fn program(&self, file: &str, text: &str) {
+        self.write(file, text.as_bytes());
+        self.output(Command::new("chmod").args(["755", file]));
     }
 
     /// The archive that the kit makes from here on; its functions return a number.
-    fn archive(&self, number: u32) {
+    fn archive(&self, number: u64) {
         let names = ["read", "write", "draw", "check"];
-        let function = |name| format!("int strip_{name}(void) {{ return {number}; }}\n");
+        let function = |name| format!("long strip_{name}(void) {{ return {number}; }}\n");
         self.write("code.c", names.map(function).concat().as_bytes());
         let mut compiler = Command::new("gcc");
         self.output(compiler.args(["-c", "-fPIC", "code.c", "-o", "code.o"]));
@@ -247,6 +261,7 @@ fn help_has_every_target() {
     let repository = Repository::new("help");
     let help = repository.output(make().arg("help"));
     for target in [
+        "demo",
         "lib",
         "install",
         "uninstall",
@@ -288,6 +303,108 @@ fn check_is_the_gate() {
     let repository = Repository::new("check");
     let printed = repository.output(make().arg("check"));
     assert_eq!(printed.lines().last(), Some("1 passed, 0 failed"));
+    assert_eq!(repository.asked(), ["needs --install check"]);
+}
+
+#[test]
+fn demo_tests_the_tools_and_builds_all() {
+    let repository = Repository::new("demo");
+    repository.archive(8 << 32); // a library that refuses every sheet ends the demo
+    let output = repository.run(&["demo"]);
+    assert!(!output.status.success(), "{output:?}");
+    let printed = String::from_utf8_lossy(&output.stdout);
+    assert!(printed.ends_with("\nrefused 8 at 0\n"), "{printed}");
+    let asked = ["needs --install demo", "check place", "staticlib strip"];
+    assert_eq!(repository.asked(), asked);
+    for file in BUILT {
+        assert!(repository.has(file), "{file}");
+    }
+}
+
+#[test]
+fn nothing_is_built_if_something_is_missing() {
+    let repository = Repository::new("missing");
+    repository.write("missing", b"");
+    for target in ["demo", "check"] {
+        repository.said(&[target], false);
+        assert_eq!(repository.asked(), [format!("needs --install {target}")]);
+        assert!(!repository.has("target"));
+    }
+}
+
+#[test]
+fn flags_of_the_caller_reach_the_linker() {
+    let repository = Repository::new("flags");
+    for name in ["CFLAGS", "LDFLAGS"] {
+        let flags = format!("{name}=-Wl,-Map={name}");
+        repository.said(&["lib", &flags], true);
+        assert!(repository.has(name), "{flags}");
+    }
+}
+
+/// The files below a folder, with their contents; those of a link are what it leads to.
+fn installed(folder: &Path) -> BTreeMap<PathBuf, Vec<u8>> {
+    let mut found = BTreeMap::new();
+    let mut folders = vec![folder.to_owned()];
+    while let Some(from) = folders.pop() {
+        for entry in fs::read_dir(from).expect("a folder") {
+            let path = entry.expect("an entry").path();
+            match fs::read(&path) {
+                Ok(contents) => {
+                    let below = path.strip_prefix(folder).expect("it is below");
+                    found.insert(below.to_owned(), contents);
+                }
+                Err(_) => folders.push(path),
+            }
+        }
+    }
+    found
+}
+
+#[test]
+fn paths_have_names_in_small_letters_and_capitals() {
+    let repository = Repository::new("names");
+    repository.said(&[], true);
+    let install = |name: &str, variables: &[&str]| {
+        let destination = format!("DESTDIR={name}");
+        let arguments = [&["install", &destination], variables].concat();
+        assert_eq!(repository.said(&arguments, true), "");
+        let files = installed(&repository.folder.join(name));
+        let arguments = [&["uninstall", &destination], variables].concat();
+        assert_eq!(repository.said(&arguments, true), "");
+        assert_eq!(installed(&repository.folder.join(name)), BTreeMap::new());
+        files
+    };
+    let check = |files: &BTreeMap<PathBuf, Vec<u8>>, paths: &str| {
+        for path in paths.split(' ') {
+            assert!(files.contains_key(Path::new(path)), "{path}");
+        }
+    };
+    let small = install("a", &["prefix=/p"]);
+    assert_eq!(small, install("b", &["PREFIX=/p"]));
+    assert_eq!(small, install("c", &["prefix=/other", "PREFIX=/p"]));
+    check(&small, "p/bin/place p/include/strip.h p/lib/libstrip.a");
+    check(&small, "p/share/doc/strip/LICENSE");
+    let small = install(
+        "d",
+        &["bindir=/b", "includedir=/i", "libdir=/l/m", "docdir=/d"],
+    );
+    let capital = install(
+        "e",
+        &["BINDIR=/b", "INCLUDEDIR=/i", "LIBDIR=/l/m", "DOCDIR=/d"],
+    );
+    assert_eq!(small, capital);
+    check(&small, "b/place i/strip.h l/m/libstrip.so.0 d/FORMAT.md");
+    check(
+        &small,
+        "l/m/pkgconfig/strip.pc l/m/cmake/strip/strip-config.cmake",
+    );
+    let parts = install("f", &["exec_prefix=/e", "datarootdir=/r"]);
+    check(
+        &parts,
+        "e/bin/place e/lib/libstrip.a usr/local/include/strip.h",
+    );
+    check(&parts, "r/doc/strip/LIBRARY.md r/doc/strip/REFUSALS.md");
 }
 
 #[test]
