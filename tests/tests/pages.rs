@@ -72,6 +72,7 @@ fn links_lead_to_pages_and_headings() {
 #[test]
 fn paths_that_are_named_are_there() {
     let folders = [
+        ".ci/",
         "crates/",
         "docs/",
         "second/",
@@ -99,8 +100,9 @@ fn paths_that_are_named_are_there() {
 
 /// The commands of a page: its indented lines that start with one.
 fn commands(page: &str) -> Vec<String> {
-    const STARTS: [&str; 9] = [
+    const STARTS: [&str; 10] = [
         "make",
+        "cmake ",
         "target/",
         "cc ",
         "c++ ",
@@ -113,22 +115,19 @@ fn commands(page: &str) -> Vec<String> {
     let text = text(Path::new(page));
     let lines = text.lines().filter_map(|line| line.strip_prefix("    "));
     let commands = lines.filter(|line| STARTS.iter().any(|start| line.starts_with(start)));
-    let possible =
-        |line: &&str| *line != "make check" && (has_pkg_config() || !line.contains("pkg-config"));
-    commands.filter(possible).map(str::to_owned).collect()
+    // the gate runs this test
+    commands
+        .filter(|line| *line != "make check")
+        .map(str::to_owned)
+        .collect()
 }
 
-/// Whether pkg-config is installed: nothing but its own commands needs it.
-fn has_pkg_config() -> bool {
-    Command::new("pkg-config").arg("--version").output().is_ok()
-}
-
-/// Checks that the commands of a page succeed one after the other, for a new user, and that each
-/// that draws the panel prints its drawing.
-fn check_commands(page: &str, least: usize) {
+/// Checks that the commands of a page succeed one after the other, for a new user who begins with the
+/// first one, and that each that draws the panel prints its drawing.
+fn check_commands(page: &str, first: &str, least: usize) {
     let commands = commands(page);
     assert!(commands.len() >= least, "{commands:?}");
-    assert_eq!(commands[0], "make");
+    assert_eq!(commands[0], first);
     shared_library();
     let home = folder(&format!("pages-{}", page.replace('/', "-")));
     let mut bash = Command::new("bash");
@@ -148,6 +147,7 @@ fn check_commands(page: &str, least: usize) {
         }
     }
     bash.env("PYTHONDONTWRITEBYTECODE", "1");
+    bash.env("SETUP", "no"); // a test installs nothing
     bash.env("MAKEFLAGS", format!("-- {}", NO_KIT.replace(' ', "\\ ")));
     bash.env("HOME", &home);
     let output = run_in(&root(), &mut bash);
@@ -156,7 +156,7 @@ fn check_commands(page: &str, least: usize) {
     let printed = String::from_utf8_lossy(&output.stdout);
     let draws = commands
         .iter()
-        .filter(|line| line.ends_with("examples/panel.sheet"));
+        .filter(|line| *line == "make demo" || line.ends_with("examples/panel.sheet"));
     assert_eq!(
         printed.matches(&drawing).count(),
         draws.count(),
@@ -166,12 +166,29 @@ fn check_commands(page: &str, least: usize) {
 
 #[test]
 fn commands_of_the_readme_work() {
-    check_commands("README.md", 4);
+    check_commands("README.md", "make demo", 4);
 }
 
 #[test]
 fn commands_for_the_library_work() {
-    check_commands("docs/LIBRARY.md", 17);
+    check_commands("docs/LIBRARY.md", "make", 20);
+}
+
+#[test]
+fn picture_of_the_readme_has_the_places_of_the_panel() {
+    let page = text(Path::new("README.md"));
+    let rows: Vec<&str> = ["    tiles    ", "    boards   ", "    cable    "]
+        .map(|name| between(&page, name, "\n").next().expect(name))
+        .into();
+    let mut drawn = String::new();
+    for (layer, row) in rows.iter().enumerate() {
+        let nodes = row.char_indices().filter(|(_, c)| *c == 'o');
+        for (position, (column, _)) in nodes.enumerate() {
+            drawn += &format!("{} {} {}\n", layer + 1, position + 1, 10 * column);
+        }
+    }
+    let drawing = fs::read_to_string(root().join("examples/panel.txt")).expect("a drawing");
+    assert_eq!(drawing, format!("total 780\n{drawn}"));
 }
 
 #[test]
