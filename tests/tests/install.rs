@@ -174,6 +174,7 @@ fn check_versions(folder: &Path) {
         (format!("{major}.{minor}.{patch} EXACT"), 1),
         (format!("{major}.{minor}.{}", patch + 1), 0),
         (format!("{major}.{}", minor + 1), 0),
+        (format!("{major}.{}", minor.wrapping_sub(1)), 0),
         (format!("{}.{minor}", major + 1), 0),
     ];
     let mut text = "cmake_minimum_required(VERSION 3.13)\nproject(versions C)\n".to_string();

@@ -395,10 +395,10 @@ fn paths_have_names_in_small_letters_and_capitals() {
     );
     assert_eq!(small, capital);
     check(&small, "b/place i/strip.h l/m/libstrip.so.0 d/FORMAT.md");
-    check(
-        &small,
-        "l/m/pkgconfig/strip.pc l/m/cmake/strip/strip-config.cmake",
-    );
+    check(&small, "l/m/pkgconfig/strip.pc");
+    let config = &small[Path::new("l/m/cmake/strip/strip-config.cmake")];
+    let header = "\"${strip_folder}/../../../../i\"";
+    assert!(String::from_utf8_lossy(config).contains(header));
     let parts = install("f", &["exec_prefix=/e", "datarootdir=/r"]);
     check(
         &parts,
