@@ -68,6 +68,7 @@ __all__ = [
     "read",
     "read_drawing",
     "sizes",
+    "version",
     "write",
     "write_drawing",
 ]
