@@ -353,12 +353,32 @@ pub fn version() -> [u32; 3] {
     [version >> 16, version >> 8 & 0xFF, version & 0xFF]
 }
 
+/// MAJOR and MINOR of this wrapper.
+const RULES: [u32; 2] = [
+    number(env!("CARGO_PKG_VERSION_MAJOR")),
+    number(env!("CARGO_PKG_VERSION_MINOR")),
+];
+
+/// The number that decimal digits stand for.
+const fn number(digits: &str) -> u32 {
+    let (mut number, mut at) = (0, 0);
+    while at < digits.len() {
+        number = 10 * number + (digits.as_bytes()[at] - b'0') as u32;
+        at += 1;
+    }
+    number
+}
+
 /// What is wrong with a library of this version, if something is: only the same MAJOR and MINOR
 /// answer as this wrapper says.
 fn mismatch([major, minor, patch]: [u32; 3]) -> Option<String> {
-    let same = VERSION.starts_with(&format!("{major}.{minor}."));
+    if [major, minor] == RULES {
+        return None;
+    }
     let library = format!("{major}.{minor}.{patch}");
-    (!same).then(|| format!("strip {VERSION} is linked with a library of version {library}"))
+    Some(format!(
+        "strip {VERSION} is linked with a library of version {library}"
+    ))
 }
 
 /// The value of an answer, or the refusal.
