@@ -39,10 +39,15 @@ fn crates() -> BTreeMap<String, Modules> {
 
 /// What is wrong with the contract of a function, if something is: it asks, or it promises nothing.
 fn fault(text: &str, name: &str) -> Option<&'static str> {
-    let (_, rest) = text.split_once(&format!("fn {name}("))?;
-    let header = rest.lines().take_while(|line| !line.ends_with('{'));
-    let header: Vec<&str> = header.map(str::trim_start).collect();
-    let has = |word: &str| header.iter().any(|line| line.starts_with(word));
+    if !text.contains(&format!("fn {name}(")) {
+        return None;
+    }
+    let contract = tools::contract(text, name).unwrap_or_default();
+    let has = |word: &str| {
+        contract
+            .lines()
+            .any(|line| line.trim_start().starts_with(word))
+    };
     match (has("requires"), has("ensures")) {
         (true, _) => Some("asks for something"),
         (_, false) => Some("has no contract"),

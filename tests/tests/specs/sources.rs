@@ -3,6 +3,7 @@
 use std::collections::BTreeSet;
 
 use super::{antt::Item, is_trusted, Library, Source};
+use crate::tools;
 
 /// The pages that name theorems.
 pub const PAGES: [&str; 3] = ["README.md", "docs/CONTRACTS.md", "docs/TRACE.md"];
@@ -12,18 +13,6 @@ const NAMED: (&str, &str) = ("crates/place/src/answer.rt", "answer");
 
 /// A name of laws that pages use for a case of an answer, and never for the laws.
 const CASE: &str = "NoSolution";
-
-/// The contract of a function: what stands between its signature and its body.
-fn contract(text: &str, name: &str) -> Option<String> {
-    let (_, rest) = text.split_once(&format!("fn {name}("))?;
-    let header = rest.lines().take_while(|line| !line.ends_with('{'));
-    let signature = |line: &&str| {
-        let word = line.split_whitespace().next();
-        !matches!(word, Some("requires" | "ensures"))
-    };
-    let contract: Vec<&str> = header.skip_while(signature).collect();
-    (!contract.is_empty()).then(|| contract.join("\n"))
-}
 
 /// The contracts of public calls: of the functions in each `lib.rt`, and of those that it hands on.
 /// Each must have one.
@@ -46,7 +35,7 @@ pub fn contracts(library: &Library) -> Vec<Source> {
         }
     }
     let source = |(file, name): (String, String)| {
-        let text = contract(&library.texts[&file], &name);
+        let text = tools::contract(&library.texts[&file], &name);
         let text = text.unwrap_or_else(|| panic!("{file}: {name} has no contract"));
         let what = format!("call {name}");
         Source { what, file, text }

@@ -126,3 +126,16 @@ pub fn python() -> Command {
     command.env_remove("STRIP_LIBRARY");
     command
 }
+
+/// The contract of a function: what stands between its signature and its body.
+#[allow(dead_code)]
+pub fn contract(text: &str, name: &str) -> Option<String> {
+    let (_, rest) = text.split_once(&format!("fn {name}("))?;
+    let header = rest.lines().take_while(|line| !line.ends_with('{'));
+    let signature = |line: &&str| {
+        let word = line.split_whitespace().next();
+        !matches!(word, Some("requires" | "ensures"))
+    };
+    let contract: Vec<&str> = header.skip_while(signature).collect();
+    (!contract.is_empty()).then(|| contract.join("\n"))
+}
