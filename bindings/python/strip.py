@@ -34,7 +34,7 @@ import os
 from array import array
 from typing import Iterable, List, NamedTuple, Tuple
 
-__version__ = "0.6.0"
+__version__ = "0.7.0"
 
 # What a program can use.
 __all__ = [
@@ -45,6 +45,8 @@ __all__ = [
     "MAX_LIST",
     "MAX_DRAWING_NUMBERS",
     "MAX_DRAWING_BYTES",
+    "MAX_WIDTHS",
+    "NO_TOTAL",
     "STACK_BYTES",
     # generated from strip.h, names of constants: end
     # generated from strip.h, names of refusals: begin
@@ -57,6 +59,7 @@ __all__ = [
     "SLICE_SHORT",
     "NO_DRAWING",
     "NO_WIDTH",
+    "MANY_WIDTHS",
     # generated from strip.h, names of refusals: end
     "Drawing",
     "Narrowest",
@@ -87,6 +90,10 @@ MAX_LIST = 1024
 MAX_DRAWING_NUMBERS = 321
 # No coordinate file has more bytes.
 MAX_DRAWING_BYTES = 645
+# The greatest count of widths in a list of widths.
+MAX_WIDTHS = 64
+# Stands among totals for a width at which the sheet has no drawing. No total is as great.
+NO_TOTAL = 4294967295
 # The stack that any of the functions needs, in bytes.
 STACK_BYTES = 53248
 # generated from strip.h, constants: end
@@ -101,7 +108,8 @@ NOT_A_SHEET = 2
 # A number is not in the fewest bytes, or takes more than two. The offset is that of the
 # number's first byte.
 NUMBER_FORM = 3
-# A number lies outside its limits. The offset is that of the number's first byte.
+# A number lies outside its limits. The offset is that of the number's first byte; of a width
+# in a list of widths, its index there.
 OUTSIDE_LIMITS = 4
 # A maximum separation is set and is below its minimum separation. The offset is that of the
 # maximum's first byte.
@@ -109,12 +117,15 @@ SEPARATIONS_CROSSED = 5
 # Something follows the last edge of a sheet, or the last node of a coordinate file. The
 # offset is that of the first byte too many.
 SOMETHING_FOLLOWS = 6
-# A slice is too short for what is to be read or written there. The offset is 0.
+# A slice is too short for what is to be read or written there. The slice for totals is too
+# short if it has fewer elements than there are widths. The offset is 0.
 SLICE_SHORT = 7
 # No drawing exists. The offset is 0.
 NO_DRAWING = 8
 # No width from 0 to 4,095 has a drawing. The offset is 0.
 NO_WIDTH = 10
+# There are more than 64 widths. The offset is 0.
+MANY_WIDTHS = 11
 # generated from strip.h, refusals: end
 
 # What each refusal means.
@@ -129,6 +140,7 @@ _TEXTS = {
     SLICE_SHORT: "A slice is too short for what is to be read or written there",
     NO_DRAWING: "No drawing exists",
     NO_WIDTH: "No width from 0 to 4,095 has a drawing",
+    MANY_WIDTHS: "There are more than 64 widths",
     # generated from strip.h, texts of refusals: end
 }
 
@@ -261,6 +273,7 @@ _FUNCTIONS = {
     "strip_draw": [ctypes.c_uint64, *_slice(ctypes.c_uint8), *_slice(ctypes.c_uint16), *_slice(ctypes.c_int32)],
     "strip_check": [ctypes.c_uint64, *_slice(ctypes.c_uint8), *_slice(ctypes.c_uint16), *_slice(ctypes.c_int32)],
     "strip_narrowest": [ctypes.c_uint64, *_slice(ctypes.c_uint8)],
+    "strip_totals": [ctypes.c_uint64, *_slice(ctypes.c_uint8), *_slice(ctypes.c_uint32), *_slice(ctypes.c_uint32)],
     "strip_read_drawing": [ctypes.c_uint64, *_slice(ctypes.c_uint8), *_slice(ctypes.c_uint16)],
     "strip_write_drawing": [ctypes.c_uint64, *_slice(ctypes.c_uint16), *_slice(ctypes.c_uint8)],
     "strip_version": [ctypes.c_uint32],
