@@ -1,5 +1,5 @@
-"""Path strips: read, write, draw and check sheets with the proved library, tell their minimum width, and read
-and write coordinate files, which hold drawings.
+"""Path strips: read, write, draw and check sheets with the proved library, tell their minimum width and their
+totals at other widths, and read and write coordinate files, which hold drawings.
 
     >>> import strip
     >>> sheet = bytes([0x53, 0x50, 0x31, 5, 2, 2, 1, 0, 1, 2, 1, 1, 1, 0, 1, 2, 1, 0])
@@ -10,6 +10,8 @@ and write coordinate files, which hold drawings.
     True
     >>> strip.narrowest(sheet)
     Narrowest(width=1, total=1)
+    >>> strip.totals(sheet, [5, 0])
+    [1, None]
     >>> counts, edges = strip.sizes(strip.read(sheet))
     >>> file = strip.write_drawing(strip.drawing_numbers(counts, drawing.places))
     >>> file.hex(" ")
@@ -32,7 +34,7 @@ import ctypes
 import functools
 import os
 from array import array
-from typing import Iterable, List, NamedTuple, Tuple
+from typing import Iterable, List, NamedTuple, Optional, Tuple
 
 __version__ = "0.7.0"
 
@@ -71,6 +73,7 @@ __all__ = [
     "read",
     "read_drawing",
     "sizes",
+    "totals",
     "version",
     "write",
     "write_drawing",
@@ -147,7 +150,7 @@ _TEXTS = {
 
 class Refusal(Exception):
     """Why there is no answer: the number of the refusal, and where: the offset of a byte, from 0 (in write and
-    write_drawing: the index of a number)."""
+    write_drawing: the index of a number; for a width of totals: its index in the list of widths)."""
 
     def __init__(self, number: int, offset: int):
         super().__init__(number, offset)
@@ -219,6 +222,15 @@ def narrowest(sheet: bytes) -> Narrowest:
     return Narrowest(width, total)
 
 
+def totals(sheet: bytes, widths: Iterable[int]) -> List[Optional[int]]:
+    """The least total of a sheet at each of up to MAX_WIDTHS widths, in their order, whatever its own width is;
+    None for a width at which it has no drawing."""
+    elements = _words(widths)
+    entries = (_U32 * len(elements))()
+    count = _call("strip_totals", _bytes(sheet), elements, entries)
+    return [None if entry == NO_TOTAL else entry for entry in entries[:count]]
+
+
 def read_drawing(file: bytes) -> List[int]:
     """The number list of a coordinate file: the count of layers, then for each layer its count of nodes and its
     places."""
@@ -257,7 +269,7 @@ def sizes(numbers: List[int]) -> Tuple[List[int], int]:
 
 
 # The elements of slices.
-_U8, _U16, _I32 = ctypes.c_uint8, ctypes.c_uint16, ctypes.c_int32
+_U8, _U16, _U32, _I32 = ctypes.c_uint8, ctypes.c_uint16, ctypes.c_uint32, ctypes.c_int32
 
 
 def _slice(element: type) -> Tuple[type, type]:
@@ -301,6 +313,12 @@ def _numbers(numbers: Iterable[int]) -> ctypes.Array:
     """A slice of 16-bit numbers."""
     elements = array("H", iter(numbers))
     return (_U16 * len(elements)).from_buffer(elements)
+
+
+def _words(numbers: Iterable[int]) -> ctypes.Array:
+    """A slice of 32-bit numbers."""
+    elements = array("I", iter(numbers))
+    return (_U32 * len(elements)).from_buffer(elements)
 
 
 def _signed(numbers: Iterable[int]) -> ctypes.Array:

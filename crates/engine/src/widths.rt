@@ -58,7 +58,7 @@ fn narrow_to(arcs: &mut [u32], first: &[u16], counts: Counts, low: &[u32]) -> Mi
 }
 
 // The total of a sheet's packed arcs at a width, or that there is no drawing; the arcs stay at that width.
-fn total_at(arcs: &mut [u32], first: &[u16], counts: Counts, width: u16) -> Answer
+pub fn total_at(arcs: &mut [u32], first: &[u16], counts: Counts, width: u16) -> Answer
     requires { ⌜ Holds (now first) (now arcs) counts ⌝ }
     requires { ⌜ width ≤ max-width ⌝ }
     ensures answer { λ r. ⌜ TotalHeld (now (first .entry)) (now (arcs .entry)) counts width (result r) ⌝ }

@@ -20,7 +20,7 @@ pub record HeldResult (t : Told) : Type 0 where
   pub second-in : t .second < part-range
   pub value-in : t .value < number-unit
 
--- an answer of reading or writing that a word holds
+-- an answer of reading or writing, or of many widths, that a word holds
 abbrev pub HeldOutcome : Outcome → Type 0
 HeldOutcome (Outcome.wrote count) = HeldResult (alone count)
 HeldOutcome (Outcome.refused r) = HeldRefusal r

@@ -70,7 +70,7 @@ told-word t = packed (t .second) 0 (t .value)
 abbrev pub refused-word : Refusal → ℕ
 refused-word r = packed 0 (r .number) (r .offset)
 
--- of reading and writing: the count
+-- of reading and writing, and of many widths: the count
 unfoldable pub outcome-word : Outcome → ℕ
 outcome-word (Outcome.wrote count) = told-word (alone count)
 outcome-word (Outcome.refused r) = refused-word r

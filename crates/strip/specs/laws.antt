@@ -4,3 +4,4 @@ pub mod ReadBack
 pub mod Values
 pub mod Narrowest
 pub mod Drawn
+pub mod Totals

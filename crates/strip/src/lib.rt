@@ -15,6 +15,7 @@ ghost use lib.ListN.{length};
 ghost use Rattle.leb128.specs.Format.{answered, filled};
 ghost use Rattle.sheet.specs.Reading.{«read-sheet», «write-sheet», «read-coordinates», «write-coordinates»};
 ghost use Rattle.checker.specs.Verdict.{«check-answer»};
+ghost use Rattle.rolls.specs.Totals.{«totals-answer», Written};
 ghost use Rattle.strip.specs.Version.{version};
 ghost use Rattle.strip.specs.Words.{«outcome-word», «judgement-word», DrawsWord, NarrowsWord};
 
@@ -59,6 +60,16 @@ pub extern "C" fn strip_narrowest(bytes: &[u8]) -> u64
     ensures { λ r. ⌜ NarrowsWord (read-sheet (now (bytes .entry))) r ⌝ }
 {
     minimum_word(engine::minimum_width(bytes))
+}
+
+// Writes the total of a sheet at each of at most 64 widths, or the mark for a width without a drawing, into the front of the totals.
+#[no_mangle]
+pub extern "C" fn strip_totals(bytes: &[u8], widths: &[u32], totals: &mut [u32]) -> u64
+    ensures answer { λ r. ⌜ r ≡ outcome-word (totals-answer (read-sheet (now (bytes .entry))) (now (widths .entry))
+        (length (now (totals .entry)))) ⌝ }
+    ensures slice { λ r. ⌜ Written (read-sheet (now (bytes .entry))) (now (widths .entry)) (now (totals .entry)) (now (totals .exit)) ⌝ }
+{
+    answer_word(rolls::totals(bytes, widths, totals))
 }
 
 // Reads a coordinate file's bytes into the front of the numbers.

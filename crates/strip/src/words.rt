@@ -33,7 +33,7 @@ fn told_word(second: u16, value: u32) -> u64
     second as u64 * SECOND_UNIT + word(0, value as usize)
 }
 
-// The answer of reading or writing.
+// The answer of reading or writing, and of many widths.
 pub fn answer_word(answer: Answer) -> u64
     requires { ⌜ HeldOutcome (outcome answer) ⌝ }
     ensures { λ r. ⌜ r ≡ outcome-word (outcome answer) ⌝ }

@@ -1,8 +1,9 @@
--- The word of `strip_draw` has a number from 0 to 8, that of `strip_narrowest` one from 0 to 6 or 10, that of `strip_read_drawing` one
--- from 0 to 4, 6 or 7, and that of `strip_write_drawing` 0, 1, 4, 6 or 7: no other refusal is told, and 9 never.
+-- The word of `strip_draw` has a number from 0 to 8, that of `strip_narrowest` one from 0 to 6 or 10, that of `strip_totals` one from 0
+-- to 7 or 11, that of `strip_read_drawing` one from 0 to 4, 6 or 7, and that of `strip_write_drawing` 0, 1, 4, 6 or 7: no other refusal
+-- is told, and 9 never.
 use Prim.Native.Nat.{ℕ, _≤_}
-use mathlib.Core.Path.{_≡_, refl, sym, subst}
-use mathlib.Core.Logic.{_⊎_, inl, inr}
+use mathlib.Core.Path.{_≡_, refl, sym, ap, subst}
+use mathlib.Core.Logic.{_⊎_, inl, inr, ⊎-elim}
 use mathlib.Core.List.{List}
 use native.Mathlib.Omega.{arith}
 use lib.IntN.{ℤ}
@@ -21,10 +22,13 @@ use Rattle.engine.specs.MinimumWidth.{Narrowed, Narrows}
 use Rattle.engine.specs.laws.Refusals.{draw-refusals}
 use Rattle.engine.specs.laws.Totals.{drawn-total}
 use Rattle.engine.specs.laws.MinimumWidth.{narrow-refusals}
+use Rattle.rolls.specs.Refusals.{many-widths, TotalsRefusal}
+use Rattle.rolls.specs.Totals.{totals-answer}
+use Rattle.rolls.specs.laws.Refusals.{totals-refusals}
 use Rattle.strip.specs.Words.{number-of, outcome-word, reply-word, drawn-word, DrawsWord, NarrowsWord}
 use Rattle.strip.specs.HeldWords.{HeldOutcome}
 use Rattle.strip.specs.laws.ReadBack.{parts-back}
-use Rattle.strip.specs.laws.Values.{file-reading-held, file-writing-held}
+use Rattle.strip.specs.laws.Values.{file-reading-held, file-writing-held, totals-held}
 use Rattle.strip.specs.laws.Narrowest.{width-back, refusal-back}
 
 -- what strip_refusal() gives of the word of drawing
@@ -51,7 +55,7 @@ narrow-word-number bytes word w = go (w .0) (w .2)
     go (Reply.value n) h = inl (omega (arith, width-back bytes word w n h .number-is))
     go (Reply.refused r) h = told r (refusal-back bytes word w r h .number-is) (narrow-refusals bytes r h)
 
--- of reading or writing: 0, or the number of a refusal that is given
+-- of reading or writing, or of many widths: 0, or the number of a refusal that is given
 answer-number : (N : ℕ → Type 0) {word : ℕ} (o : Outcome) → word ≡ outcome-word o → HeldOutcome o
     → ((r : Refusal) → o ≡ Outcome.refused r → N (r .number)) → (number-of word ≡ 0) ⊎ N (number-of word)
 unfolding outcome-word
@@ -73,3 +77,22 @@ pub file-write-number : (numbers : List ℕ) (room word : ℕ) → word ≡ outc
 file-write-number numbers room word e =
     answer-number (WriterRefusal Outside) (answered room (write-coordinates numbers)) e (file-writing-held numbers room)
     (writer-refusals numbers room)
+
+-- a number of many widths
+abbrev TotalsNumber : ℕ → Type 0
+TotalsNumber n = (n ≤ slice-short) ⊎ (n ≡ many-widths)
+
+-- a refusal of many widths has one
+totals-number : (r : Refusal) → TotalsRefusal r → TotalsNumber (r .number)
+totals-number r (TotalsRefusal.read g) = inl (omega (arith, g .number-in))
+totals-number r (TotalsRefusal.many e) = inr (ap (λ (r : Refusal). r .number) e)
+totals-number r (TotalsRefusal.outside l e) = inl (omega (arith, ap (λ (r : Refusal). r .number) e))
+totals-number r (TotalsRefusal.short e) = inl (omega (arith, ap (λ (r : Refusal). r .number) e))
+
+-- and so has the word
+pub totals-word-number : (bytes ws : List ℕ) (room word : ℕ) → word ≡ outcome-word (totals-answer (read-sheet bytes) ws room)
+    → (number-of word ≤ slice-short) ⊎ (number-of word ≡ many-widths)
+totals-word-number bytes ws room word e =
+    ⊎-elim (λ (z : number-of word ≡ 0). inl (omega arith)) (λ (g : TotalsNumber (number-of word)). g)
+    (answer-number TotalsNumber (totals-answer (read-sheet bytes) ws room) e (totals-held bytes ws room)
+    (λ r f. totals-number r (totals-refusals bytes ws room r f)))

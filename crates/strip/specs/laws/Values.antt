@@ -10,7 +10,8 @@ use lib.IntN.{ℤ}
 use borrow.Author.Tests.{lt-ltb, le-ltb}
 use lib.ListN.{length}
 use Rattle.leb128.specs.declared.Refusal.{Refusal}
-use Rattle.leb128.specs.Format.{Result, answered}
+use Rattle.leb128.specs.Source.{refusal}
+use Rattle.leb128.specs.Format.{Result, Outcome, answered}
 use Rattle.leb128.specs.Format.Result.{elements}
 use Rattle.leb128.specs.laws.Cases.{lt-or-le}
 use Rattle.leb128.specs.Reply.{Reply}
@@ -29,6 +30,9 @@ use Rattle.engine.specs.MinimumWidth.{Narrowed, Narrows}
 use Rattle.engine.specs.laws.MinimumWidth.{narrow-refusals, narrow-small}
 use Rattle.engine.specs.Refusals.{WidthRefusal}
 use Rattle.engine.specs.Refusals.WidthRefusal.{read, none}
+use Rattle.rolls.specs.Refusals.{TotalsRefusal}
+use Rattle.rolls.specs.Totals.{totals-answer}
+use Rattle.rolls.specs.laws.Refusals.{totals-refusals, totals-count}
 use Rattle.strip.specs.Words.{number-unit, part-range, alone}
 use Rattle.strip.specs.HeldWords.{HeldRefusal, HeldResult, HeldOutcome, HeldDrawn, HeldJudgement, HeldNarrowed}
 
@@ -40,6 +44,10 @@ numbered-held n m o = record { numbered = n .0; number-in = omega (arith, m, n .
 given-held : {most : ℕ} {r : Refusal} → most < part-range → RefusalTo most r → HeldRefusal r
 given-held m g = numbered-held (g .number-in) m (g .offset-in)
 
+-- a refusal with a small number at offset 0
+zero-held : {number : ℕ} → 0 < number → number < part-range → HeldRefusal (refusal number 0)
+zero-held n m = record { numbered = n; number-in = m; offset-in = omega arith }
+
 -- a result that is one number
 alone-held : {n : ℕ} → n < number-unit → HeldResult (alone n)
 alone-held h = record { second-in = omega arith; value-in = h }
@@ -50,8 +58,7 @@ answer-held : (room : ℕ) (result : Result) → ((es : List ℕ) → result ≡
 unfolding answered
 answer-held room (elements es) few held =
     ⊎-elim
-    (λ (k : room < length es). rw (lt-ltb room (length es) k)
-    (record { numbered = omega arith; number-in = omega arith; offset-in = omega arith }))
+    (λ (k : room < length es). rw (lt-ltb room (length es) k) (zero-held (omega arith) (omega arith)))
     (λ (k : length es ≤ room). rw (le-ltb room (length es) k) (alone-held (few es refl)))
     (lt-or-le room (length es))
 answer-held room (Result.refused r) few held = held r refl
@@ -107,8 +114,7 @@ checking-held bytes places list = go (check-answer (read-sheet bytes) places lis
 -- a refusal of the minimum width
 width-held : {r : Refusal} → WidthRefusal r → HeldRefusal r
 width-held (read g) = given-held (omega arith) g
-width-held (none e) =
-    subst HeldRefusal (sym e) (record { numbered = omega arith; number-in = omega arith; offset-in = omega arith })
+width-held (none e) = subst HeldRefusal (sym e) (zero-held (omega arith) (omega arith))
 
 -- of the minimum width
 pub narrowing-held : (bytes : List ℕ) (a : Narrowed) → Narrows (read-sheet bytes) a → HeldNarrowed a
@@ -116,3 +122,19 @@ narrowing-held bytes (Reply.value n) h =
     let small = narrow-small bytes n h in
     record { second-in = omega (arith, small .0); value-in = omega (arith, small .1) }
 narrowing-held bytes (Reply.refused r) h = width-held (narrow-refusals bytes r h)
+
+-- a refusal of many widths
+widths-held : {r : Refusal} → TotalsRefusal r → HeldRefusal r
+widths-held (TotalsRefusal.read g) = given-held (omega arith) g
+widths-held (TotalsRefusal.many e) = subst HeldRefusal (sym e) (zero-held (omega arith) (omega arith))
+widths-held (TotalsRefusal.outside l e) =
+    subst HeldRefusal (sym e) (record { numbered = omega arith; number-in = omega arith; offset-in = omega (arith, l) })
+widths-held (TotalsRefusal.short e) = subst HeldRefusal (sym e) (zero-held (omega arith) (omega arith))
+
+-- of many widths
+pub totals-held : (bytes ws : List ℕ) (room : ℕ) → HeldOutcome (totals-answer (read-sheet bytes) ws room)
+totals-held bytes ws room = go (totals-answer (read-sheet bytes) ws room) refl
+  where
+    go : (o : Outcome) → totals-answer (read-sheet bytes) ws room ≡ o → HeldOutcome o
+    go (Outcome.wrote count) e = alone-held (omega (arith, totals-count (read-sheet bytes) ws room count e))
+    go (Outcome.refused r) e = widths-held (totals-refusals bytes ws room r e)

@@ -1,0 +1,4 @@
+pub mod Order
+pub mod Put
+pub mod Below
+pub mod Whole

@@ -1,0 +1,6 @@
+pub mod Limits
+pub mod Refusals
+pub mod Totals
+pub mod Single
+pub mod inside
+pub mod laws
