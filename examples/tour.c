@@ -1,8 +1,9 @@
 /*
- * Every function: reads a sheet, tells its minimum width, writes it with another width, draws
- * that, has the drawing checked, makes a coordinate file of it, and reads that. It prints the
- * minimum width with the least total there, the total, what the checker says, and then how long the
- * coordinate file is.
+ * Every function: reads a sheet, tells its minimum width, writes it with another width, tells its
+ * totals at several widths, draws it, has the drawing checked, makes a coordinate file of it, and
+ * reads that. It prints the minimum width with the least total there, the total at the minimum
+ * width, at the other one and at the greatest one, the drawing's total, what the checker says, and
+ * then how long the coordinate file is.
  *
  * Exit status: 0 drawn and accepted, 1 refused or not accepted, 2 the file cannot be read or the
  * width is no number.
@@ -56,8 +57,9 @@ int main(int argc, char **argv) {
     uint16_t numbers[STRIP_MAX_NUMBERS], places[STRIP_MAX_PLACES];
     uint16_t drawing[STRIP_MAX_DRAWING_NUMBERS];
     int32_t list[STRIP_MAX_LIST];
+    uint32_t widths[3], totals[3];
     uint16_t width;
-    size_t length, count;
+    size_t length, count, i;
     uint64_t answer;
     FILE *file;
 
@@ -95,12 +97,26 @@ int main(int argc, char **argv) {
         return 1;
     printf("narrowest: width %lu, total %lu\n", (unsigned long)strip_second(answer),
            (unsigned long)strip_value(answer));
+    widths[0] = strip_second(answer);
+    widths[1] = width;
+    widths[2] = 4095;
 
     /* The same sheet with another width; one outside the limits is refused. */
     answer = strip_write(numbers, count, bytes, sizeof bytes);
     if (refused("write", answer))
         return 1;
     length = strip_value(answer);
+
+    /* Its least total at each of several widths, or that it has no drawing there. */
+    answer = strip_totals(bytes, length, widths, 3, totals, 3);
+    if (refused("totals", answer))
+        return 1;
+    for (i = 0; i < strip_value(answer); i++) {
+        if (totals[i] == STRIP_NO_TOTAL)
+            printf("width %lu: no drawing\n", (unsigned long)widths[i]);
+        else
+            printf("width %lu: total %lu\n", (unsigned long)widths[i], (unsigned long)totals[i]);
+    }
 
     /* Its drawing, with a list that shows the total to be least. */
     answer = strip_draw(bytes, length, places, STRIP_MAX_PLACES, list, STRIP_MAX_LIST);

@@ -1,5 +1,5 @@
-"""Path strips: read, write, draw and check sheets with the proved library, tell their minimum width, and read
-and write coordinate files, which hold drawings.
+"""Path strips: read, write, draw and check sheets with the proved library, tell their minimum width and their
+totals at other widths, and read and write coordinate files, which hold drawings.
 
     >>> import strip
     >>> sheet = bytes([0x53, 0x50, 0x31, 5, 2, 2, 1, 0, 1, 2, 1, 1, 1, 0, 1, 2, 1, 0])
@@ -10,6 +10,8 @@ and write coordinate files, which hold drawings.
     True
     >>> strip.narrowest(sheet)
     Narrowest(width=1, total=1)
+    >>> strip.totals(sheet, [5, 0])
+    [1, None]
     >>> counts, edges = strip.sizes(strip.read(sheet))
     >>> file = strip.write_drawing(strip.drawing_numbers(counts, drawing.places))
     >>> file.hex(" ")
@@ -32,9 +34,9 @@ import ctypes
 import functools
 import os
 from array import array
-from typing import Iterable, List, NamedTuple, Tuple
+from typing import Iterable, List, NamedTuple, Optional, Tuple
 
-__version__ = "0.6.0"
+__version__ = "0.7.0"
 
 # What a program can use.
 __all__ = [
@@ -45,6 +47,8 @@ __all__ = [
     "MAX_LIST",
     "MAX_DRAWING_NUMBERS",
     "MAX_DRAWING_BYTES",
+    "MAX_WIDTHS",
+    "NO_TOTAL",
     "STACK_BYTES",
     # generated from strip.h, names of constants: end
     # generated from strip.h, names of refusals: begin
@@ -57,6 +61,7 @@ __all__ = [
     "SLICE_SHORT",
     "NO_DRAWING",
     "NO_WIDTH",
+    "MANY_WIDTHS",
     # generated from strip.h, names of refusals: end
     "Drawing",
     "Narrowest",
@@ -68,6 +73,7 @@ __all__ = [
     "read",
     "read_drawing",
     "sizes",
+    "totals",
     "version",
     "write",
     "write_drawing",
@@ -87,6 +93,10 @@ MAX_LIST = 1024
 MAX_DRAWING_NUMBERS = 321
 # No coordinate file has more bytes.
 MAX_DRAWING_BYTES = 645
+# The greatest count of widths in a list of widths.
+MAX_WIDTHS = 64
+# Stands among totals for a width at which the sheet has no drawing. No total is as great.
+NO_TOTAL = 4294967295
 # The stack that any of the functions needs, in bytes.
 STACK_BYTES = 53248
 # generated from strip.h, constants: end
@@ -101,7 +111,8 @@ NOT_A_SHEET = 2
 # A number is not in the fewest bytes, or takes more than two. The offset is that of the
 # number's first byte.
 NUMBER_FORM = 3
-# A number lies outside its limits. The offset is that of the number's first byte.
+# A number lies outside its limits. The offset is that of the number's first byte; of a width
+# in a list of widths, its index there.
 OUTSIDE_LIMITS = 4
 # A maximum separation is set and is below its minimum separation. The offset is that of the
 # maximum's first byte.
@@ -109,12 +120,15 @@ SEPARATIONS_CROSSED = 5
 # Something follows the last edge of a sheet, or the last node of a coordinate file. The
 # offset is that of the first byte too many.
 SOMETHING_FOLLOWS = 6
-# A slice is too short for what is to be read or written there. The offset is 0.
+# A slice is too short for what is to be read or written there. The slice for totals is too
+# short if it has fewer elements than there are widths. The offset is 0.
 SLICE_SHORT = 7
 # No drawing exists. The offset is 0.
 NO_DRAWING = 8
 # No width from 0 to 4,095 has a drawing. The offset is 0.
 NO_WIDTH = 10
+# There are more than 64 widths. The offset is 0.
+MANY_WIDTHS = 11
 # generated from strip.h, refusals: end
 
 # What each refusal means.
@@ -129,13 +143,14 @@ _TEXTS = {
     SLICE_SHORT: "A slice is too short for what is to be read or written there",
     NO_DRAWING: "No drawing exists",
     NO_WIDTH: "No width from 0 to 4,095 has a drawing",
+    MANY_WIDTHS: "There are more than 64 widths",
     # generated from strip.h, texts of refusals: end
 }
 
 
 class Refusal(Exception):
     """Why there is no answer: the number of the refusal, and where: the offset of a byte, from 0 (in write and
-    write_drawing: the index of a number)."""
+    write_drawing: the index of a number; for a width of totals: its index in the list of widths)."""
 
     def __init__(self, number: int, offset: int):
         super().__init__(number, offset)
@@ -207,6 +222,15 @@ def narrowest(sheet: bytes) -> Narrowest:
     return Narrowest(width, total)
 
 
+def totals(sheet: bytes, widths: Iterable[int]) -> List[Optional[int]]:
+    """The least total of a sheet at each of up to MAX_WIDTHS widths, in their order, whatever its own width is;
+    None for a width at which it has no drawing."""
+    elements = _words(widths)
+    entries = (_U32 * len(elements))()
+    count = _call("strip_totals", _bytes(sheet), elements, entries)
+    return [None if entry == NO_TOTAL else entry for entry in entries[:count]]
+
+
 def read_drawing(file: bytes) -> List[int]:
     """The number list of a coordinate file: the count of layers, then for each layer its count of nodes and its
     places."""
@@ -245,7 +269,7 @@ def sizes(numbers: List[int]) -> Tuple[List[int], int]:
 
 
 # The elements of slices.
-_U8, _U16, _I32 = ctypes.c_uint8, ctypes.c_uint16, ctypes.c_int32
+_U8, _U16, _U32, _I32 = ctypes.c_uint8, ctypes.c_uint16, ctypes.c_uint32, ctypes.c_int32
 
 
 def _slice(element: type) -> Tuple[type, type]:
@@ -261,6 +285,7 @@ _FUNCTIONS = {
     "strip_draw": [ctypes.c_uint64, *_slice(ctypes.c_uint8), *_slice(ctypes.c_uint16), *_slice(ctypes.c_int32)],
     "strip_check": [ctypes.c_uint64, *_slice(ctypes.c_uint8), *_slice(ctypes.c_uint16), *_slice(ctypes.c_int32)],
     "strip_narrowest": [ctypes.c_uint64, *_slice(ctypes.c_uint8)],
+    "strip_totals": [ctypes.c_uint64, *_slice(ctypes.c_uint8), *_slice(ctypes.c_uint32), *_slice(ctypes.c_uint32)],
     "strip_read_drawing": [ctypes.c_uint64, *_slice(ctypes.c_uint8), *_slice(ctypes.c_uint16)],
     "strip_write_drawing": [ctypes.c_uint64, *_slice(ctypes.c_uint16), *_slice(ctypes.c_uint8)],
     "strip_version": [ctypes.c_uint32],
@@ -288,6 +313,12 @@ def _numbers(numbers: Iterable[int]) -> ctypes.Array:
     """A slice of 16-bit numbers."""
     elements = array("H", iter(numbers))
     return (_U16 * len(elements)).from_buffer(elements)
+
+
+def _words(numbers: Iterable[int]) -> ctypes.Array:
+    """A slice of 32-bit numbers."""
+    elements = array("I", iter(numbers))
+    return (_U32 * len(elements)).from_buffer(elements)
 
 
 def _signed(numbers: Iterable[int]) -> ctypes.Array:

@@ -28,6 +28,12 @@ def one_over_three(kind):
     return strip.write([2, 2, 1, 3, 1, 0, 1, 0, 3, 1, 1, 1, 0, 1, 1, 3, 0, 1, 1, 3, kind])
 
 
+def stair(kind):
+    """Document 01's stair: three layers of two nodes, and an edge from each right node to the left one below; the
+    second has this kind. Its width is 0, at which it has no drawing."""
+    return strip.write([0, 3] + [2, 1, 0] * 3 + [2, 1, 2, 1, 0, 2, 2, 1, kind])
+
+
 def load_tests(loader, tests, pattern):
     """The examples of the module's text are tests too."""
     tests.addTests(doctest.DocTestSuite(strip))
@@ -86,6 +92,33 @@ class Answers(unittest.TestCase):
         least = [4095, 2] + [2, 4095, 0] * 2 + [1, 1, 1, 2, 0]
         self.assertEqual(strip.narrowest(strip.write(least)), strip.Narrowest(4095, 4095))
 
+    def test_totals(self):
+        """Each entry is for its own width, in the order of the list."""
+        self.assertEqual(strip.totals(SHEET, [5, 0]), [1, None])
+        self.assertEqual(strip.totals(stair(0), [0, 1, 2, 3, 4]), [None, 2, 1, 0, 0])
+        self.assertEqual(strip.totals(stair(1), [0, 1, 2, 3, 4]), [None, None, 1, 0, 0])
+        self.assertEqual(strip.totals(stair(0), [4095, 2, 0, 1, 2, 0]), [0, 1, None, 2, 1, None])
+        crossing = strip.write([4095, 2] + [2, 1, 0] * 2 + [2, 1, 1, 2, 1, 1, 2, 1, 1])
+        self.assertEqual(strip.totals(crossing, range(4032, 4096)), [None] * strip.MAX_WIDTHS)
+
+    def test_totals_are_those_of_drawings(self):
+        """Each entry is the total of the sheet that is written with this width."""
+        widths = list(range(strip.MAX_WIDTHS))
+        for sheet in (SHEET, stair(0), stair(1), one_over_three(0), one_over_three(1)):
+            least = strip.narrowest(sheet)
+            totals = strip.totals(sheet, widths)
+            self.assertEqual(totals[: least.width + 1], [None] * least.width + [least.total])
+            for width in widths[least.width :]:
+                drawn = strip.draw(strip.write([width] + strip.read(sheet)[1:]))
+                self.assertEqual(totals[width], drawn.total)
+
+    def test_lists_of_widths(self):
+        """Any iterable of numbers is a list of widths, also one without a width."""
+        for widths in ((2, 1), range(2, 0, -1), iter([2, 1]), bytes([2, 1]), array("H", [2, 1]), {2: 0, 1: 0}):
+            self.assertEqual(strip.totals(stair(0), widths), [1, 2])
+        self.assertEqual(strip.totals(stair(0), []), [])
+        self.assertEqual(strip.totals(stair(0), iter(())), [])
+
     def test_read_drawing(self):
         self.assertEqual(strip.read_drawing(FILE), DRAWING)
         self.assertEqual(strip.read_drawing(b"SD1\x01\x03\x0a\x05\x80\x01"), [1, 3, 10, 15, 143])
@@ -122,6 +155,7 @@ class Answers(unittest.TestCase):
         self.assertEqual(len(drawing.certificate), strip.MAX_LIST)
         self.assertTrue(strip.check(sheet, drawing.places, drawing.certificate))
         self.assertEqual(strip.narrowest(sheet).width, 63)
+        self.assertEqual(strip.totals(sheet, [62, 4095]), [None, drawing.total])
 
     def test_wide_elements(self):
         """The bytes of the memory count, whatever the elements are."""
@@ -131,6 +165,7 @@ class Answers(unittest.TestCase):
         self.assertEqual(strip.draw(wide), strip.draw(SHEET))
         self.assertEqual(strip.read(memoryview(SHEET).cast("H")), NUMBERS)
         self.assertEqual(strip.narrowest(memoryview(SHEET).cast("B", [2, 9])), (1, 1))
+        self.assertEqual(strip.totals(wide, [1, 0]), [1, None])
         self.assertIs(strip.check(wide, PLACES, CERTIFICATE), True)
         file = (ctypes.c_uint16 * 4).from_buffer_copy(b"SD1\x01\x02\x00\xff\x1f")
         self.assertEqual(strip.read_drawing(file), [1, 2, 0, 4095])
@@ -139,7 +174,18 @@ class Answers(unittest.TestCase):
         for kind in (bytearray, memoryview):
             self.assertEqual(strip.draw(kind(SHEET)).places, PLACES)
             self.assertEqual(strip.narrowest(kind(SHEET)), (1, 1))
+            self.assertEqual(strip.totals(kind(SHEET), [1]), [1])
             self.assertEqual(strip.read_drawing(kind(FILE)), DRAWING)
+
+
+def totals_at_none(sheet):
+    """The totals of a sheet at no width."""
+    return strip.totals(sheet, [])
+
+
+def totals_at_many(sheet):
+    """The totals of a sheet at more widths than there may be, the first of which is too great."""
+    return strip.totals(sheet, [4096] + [0] * strip.MAX_WIDTHS)
 
 
 class Refusals(unittest.TestCase):
@@ -154,7 +200,7 @@ class Refusals(unittest.TestCase):
         self.assertNotEqual(refusal.text, strip.Refusal(99, 0).text)
 
     def test_sheets(self):
-        for call in (strip.read, strip.draw, strip.narrowest):
+        for call in (strip.read, strip.draw, strip.narrowest, totals_at_none, totals_at_many):
             self.refused(strip.INPUT_ENDED, 0, call, b"")
             self.refused(strip.NOT_A_SHEET, 0, call, b"SP2")
             self.refused(strip.NUMBER_FORM, 3, call, b"SP1\x80\x00")
@@ -164,6 +210,16 @@ class Refusals(unittest.TestCase):
         self.refused(strip.NO_DRAWING, 0, strip.draw, b"SP1\x00\x01\x02\x01\x00\x00")
         self.refused(strip.NO_WIDTH, 0, strip.narrowest, b"SP1\x00\x01\x03\xff\x1f\x00\xff\x1f\x00\x00")
 
+    def test_widths(self):
+        """The length of the list is tested before its widths, and then the first width that is too great is told."""
+        self.refused(strip.MANY_WIDTHS, 0, totals_at_many, SHEET)
+        self.refused(strip.MANY_WIDTHS, 0, strip.totals, SHEET, [1] * 65)
+        self.assertEqual(strip.totals(SHEET, [1] * 64), [1] * 64)
+        for width in (4096, 65535, 65536 + 5, 2**31, strip.NO_TOTAL):
+            self.refused(strip.OUTSIDE_LIMITS, 0, strip.totals, SHEET, [width])
+            self.refused(strip.OUTSIDE_LIMITS, 2, strip.totals, SHEET, [0, 4095, width, 4096])
+            self.refused(strip.OUTSIDE_LIMITS, 63, strip.totals, SHEET, [1] * 63 + [width])
+
     def test_numbers(self):
         self.refused(strip.INPUT_ENDED, 0, strip.write, [])
         self.refused(strip.OUTSIDE_LIMITS, 0, strip.write, [65535])
@@ -171,7 +227,7 @@ class Refusals(unittest.TestCase):
         self.refused(strip.SOMETHING_FOLLOWS, 15, strip.write, NUMBERS + [0])
 
     def test_files(self):
-        for call in (strip.read, strip.draw, strip.narrowest):
+        for call in (strip.read, strip.draw, strip.narrowest, totals_at_none):
             self.refused(strip.NOT_A_SHEET, 0, call, FILE)
         self.refused(strip.NOT_A_SHEET, 0, strip.read_drawing, SHEET)
         for file in (b"", b"S", b"SD", b"XX", b"SD1\x02\x01\x00", b"SD1\x01\x02\x00\x80"):
@@ -202,11 +258,15 @@ class Refusals(unittest.TestCase):
             self.assertRaises(OverflowError, strip.write_drawing, numbers)
             self.assertRaises(OverflowError, strip.check, SHEET, numbers, CERTIFICATE)
         self.assertRaises(OverflowError, strip.check, SHEET, PLACES, [2**31])
-        for call in (strip.read, strip.draw, strip.narrowest, strip.read_drawing):
+        for width in (-1, 2**32, 2**64):
+            self.assertRaises(OverflowError, strip.totals, SHEET, [1, width])
+        for call in (strip.read, strip.draw, strip.narrowest, totals_at_none, strip.read_drawing):
             for source in ("SP1", list(SHEET), 5, None, memoryview(SHEET)[::2]):
                 self.assertRaises(TypeError, call, source)
         self.assertRaises(TypeError, strip.check, list(SHEET), PLACES, CERTIFICATE)
         self.assertRaises(TypeError, strip.write, [0.5])
+        for widths in (5, None, [0.5], ["5"], "5"):
+            self.assertRaises(TypeError, strip.totals, SHEET, widths)
 
     def test_counts(self):
         """Counts that are not those of the places."""
@@ -222,7 +282,7 @@ class Names(unittest.TestCase):
     def test_all(self):
         """All names of the module's own that do not start with an underscore."""
         own = [name for name, value in vars(strip).items() if name[0] != "_" and not inspect.ismodule(value)]
-        imported = {"array", "Iterable", "List", "NamedTuple", "Tuple"}
+        imported = {"array", "Iterable", "List", "NamedTuple", "Optional", "Tuple"}
         self.assertEqual(sorted(strip.__all__), sorted(set(own) - imported))
 
     def test_text(self):

@@ -19,5 +19,6 @@ pub mod sheet;
 pub mod simplex;
 pub mod solver;
 pub mod source;
+pub mod totals;
 pub mod traces;
 pub mod tree;

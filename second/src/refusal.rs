@@ -18,8 +18,10 @@ pub const SLICE_TOO_SHORT: u32 = 7;
 pub const NO_DRAWING: u32 = 8;
 /// No width within the limit has a drawing.
 pub const NO_WIDTH: u32 = 10;
+/// There are more widths than a list may have.
+pub const MANY_WIDTHS: u32 = 11;
 
-/// One of the numbers above, and an offset in bytes (for the writer: an index).
+/// One of the numbers above, and an offset in bytes (for the writer and for widths: an index).
 #[derive(Clone, Copy, Debug, PartialEq, Eq)]
 pub struct Refusal {
     pub number: u32,

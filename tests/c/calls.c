@@ -20,11 +20,14 @@
         assert(strip_second(given) == 0);                                                          \
     } while (0)
 
-/* That drawing a bad sheet and telling its minimum width are refused alike. */
+/* That drawing a bad sheet, telling its minimum width, and telling its totals at no width and at
+ * more widths than there may be are refused alike. */
 #define BAD_SHEET(sheet, number, offset)                                                           \
     do {                                                                                           \
         REFUSED(draw(sheet, COUNT(sheet)), number, offset);                                        \
         REFUSED(strip_narrowest(sheet, COUNT(sheet)), number, offset);                             \
+        REFUSED(strip_totals(sheet, COUNT(sheet), NULL, 0, NULL, 0), number, offset);              \
+        REFUSED(totals(sheet, COUNT(sheet), too_many, COUNT(too_many)), number, offset);           \
     } while (0)
 
 /* That an answer is this width and total, in one number and in its three parts. */
@@ -46,7 +49,10 @@ static const int32_t first_list[] = {1, -1, 0, 1, 0, 0, 0, 0};
 static const uint8_t first_file[] = {0x53, 0x44, 0x31, 2, 2, 0, 1, 1, 0};
 static const uint16_t first_drawing[] = {2, 2, 0, 1, 1, 0};
 
-/* Room for the answers to any sheet and any coordinate file. */
+/* More widths than there may be, of which the first is too great. */
+static const uint32_t too_many[STRIP_MAX_WIDTHS + 1] = {4096};
+
+/* Room for the answers to any sheet and any coordinate file, and for more totals than widths. */
 struct room {
     uint8_t sheet[STRIP_MAX_SHEET_BYTES];
     uint16_t numbers[STRIP_MAX_NUMBERS];
@@ -54,6 +60,7 @@ struct room {
     int32_t list[STRIP_MAX_LIST];
     uint8_t file[STRIP_MAX_DRAWING_BYTES];
     uint16_t drawing[STRIP_MAX_DRAWING_NUMBERS];
+    uint32_t totals[STRIP_MAX_WIDTHS + 2];
 };
 
 /* The room that the calls write to, and what it is before a call. */
@@ -75,6 +82,12 @@ static uint64_t draw(const uint8_t *sheet, size_t sheet_len) {
     return strip_draw(sheet, sheet_len, room.places, STRIP_MAX_PLACES, room.list, STRIP_MAX_LIST);
 }
 
+/* Tells the totals of a sheet into the room. */
+static uint64_t totals(const uint8_t *sheet, size_t sheet_len, const uint32_t *widths,
+                       size_t widths_len) {
+    return strip_totals(sheet, sheet_len, widths, widths_len, room.totals, COUNT(room.totals));
+}
+
 /* Reads a coordinate file into the room. */
 static uint64_t read_drawing(const uint8_t *file, size_t file_len) {
     return strip_read_drawing(file, file_len, room.drawing, STRIP_MAX_DRAWING_NUMBERS);
@@ -87,6 +100,8 @@ static uint64_t write_drawing(const uint16_t *drawing, size_t drawing_len) {
 
 /* Each function answers the first sheet or its file, and writes no element behind the answer. */
 static void answers(void) {
+    const uint32_t widths[] = {5, 0};
+
     paint();
     assert(strip_read(first, COUNT(first), room.numbers, STRIP_MAX_NUMBERS) == 15);
     assert(memcmp(room.numbers, first_numbers, sizeof first_numbers) == 0);
@@ -103,6 +118,9 @@ static void answers(void) {
     room.places[0] = 1;
     assert(strip_check(first, COUNT(first), room.places, 3, room.list, 8) == 0);
     NARROWEST(strip_narrowest(first, COUNT(first)), 1, 1);
+    assert(totals(first, COUNT(first), widths, 2) == 2);
+    assert(room.totals[0] == 1 && room.totals[1] == STRIP_NO_TOTAL);
+    assert(room.totals[2] == 0xa5a5a5a5);
     assert(read_drawing(first_file, COUNT(first_file)) == 6);
     assert(memcmp(room.drawing, first_drawing, sizeof first_drawing) == 0);
     assert(room.drawing[6] == 0xa5a5);
@@ -157,6 +175,43 @@ static void narrowest(void) {
     NARROWEST(strip_narrowest(room.sheet, length), 4095, 8190);
 }
 
+/* Checks the totals of a sheet at widths, in a slice of their count, and in a longer one, of which
+ * the rest is kept. */
+static void totals_are(const uint8_t *sheet, size_t length, const uint32_t *widths,
+                       const uint32_t *expected, size_t count) {
+    paint();
+    assert(strip_totals(sheet, length, widths, count, room.totals, count) == count);
+    assert(memcmp(room.totals, expected, count * sizeof *expected) == 0);
+    memset(room.totals, 0xa5, sizeof room.totals);
+    assert(totals(sheet, length, widths, count) == count);
+    assert(memcmp(room.totals, expected, count * sizeof *expected) == 0);
+    memset(room.totals, 0xa5, count * sizeof *expected);
+    assert(untouched());
+}
+
+/* The totals of a sheet at several widths, in their order, whatever its own width is. */
+static void many_widths(void) {
+    uint8_t stair[] = {0x53, 0x50, 0x31, 0, 3, 2, 1, 0, 2, 1, 0, 2, 1, 0, 2,
+                       1,    2,    1,    0, 2, 2, 1, 0};
+    const uint8_t crossing[] = {0x53, 0x50, 0x31, 0xff, 0x1f, 2, 2, 1, 0, 2, 1,
+                                0,    2,    1,    1,    2,    1, 1, 2, 1, 1};
+    const uint32_t rising[] = {0, 1, 2, 3, 4}, any_order[] = {4095, 0, 1, 4095, 1, 2, 0};
+    const uint32_t plain[] = {STRIP_NO_TOTAL, 2, 1, 0, 0};
+    const uint32_t plain_any_order[] = {0, STRIP_NO_TOTAL, 2, 0, 2, 1, STRIP_NO_TOTAL};
+    const uint32_t straight[] = {STRIP_NO_TOTAL, STRIP_NO_TOTAL, 1, 0, 0};
+    const uint32_t none[] = {STRIP_NO_TOTAL, STRIP_NO_TOTAL, STRIP_NO_TOTAL, STRIP_NO_TOTAL,
+                             STRIP_NO_TOTAL};
+
+    for (stair[3] = 0; stair[3] < 5; stair[3]++) {
+        totals_are(stair, COUNT(stair), rising, plain, 5);
+        totals_are(stair, COUNT(stair), any_order, plain_any_order, 7);
+        totals_are(stair, COUNT(stair), NULL, plain, 0);
+    }
+    stair[COUNT(stair) - 1] = 1;
+    totals_are(stair, COUNT(stair), rising, straight, 5);
+    totals_are(crossing, COUNT(crossing), rising, none, 5);
+}
+
 /* Checks that a coordinate file has this number list, and the list this file. */
 static void correspond(const uint8_t *file, size_t length, const uint16_t *drawing, size_t count) {
     assert(read_drawing(file, length) == count);
@@ -208,7 +263,41 @@ static void refusals(void) {
     assert(STRIP_OK == 0 && STRIP_INPUT_ENDED == 1 && STRIP_NOT_A_SHEET == 2);
     assert(STRIP_NUMBER_FORM == 3 && STRIP_OUTSIDE_LIMITS == 4 && STRIP_SEPARATIONS_CROSSED == 5);
     assert(STRIP_SOMETHING_FOLLOWS == 6 && STRIP_SLICE_SHORT == 7 && STRIP_NO_DRAWING == 8);
-    assert(STRIP_NO_WIDTH == 10);
+    assert(STRIP_NO_WIDTH == 10 && STRIP_MANY_WIDTHS == 11);
+}
+
+/* Each refusal of a list of widths: first for its length, then for the first width that is too
+ * great, then for the slice of totals. */
+static void width_refusals(void) {
+    /* no width is taken by its low 12 or 16 bits, and the mark is no width */
+    const uint32_t too_great[] = {4096, 65535, 65536, 65541, 2147483648, STRIP_NO_TOTAL};
+    const uint8_t no_drawing[] = {0x53, 0x50, 0x31, 0x00, 0x01, 0x02, 0x01, 0x00, 0x00};
+    uint32_t widths[STRIP_MAX_WIDTHS + 1] = {0};
+    size_t length = COUNT(first), i;
+
+    paint();
+    REFUSED(totals(first, length, widths, 65), STRIP_MANY_WIDTHS, 0);
+    REFUSED(totals(first, length, too_many, 65), STRIP_MANY_WIDTHS, 0);
+    REFUSED(strip_totals(first, length, too_many, 65, NULL, 0), STRIP_MANY_WIDTHS, 0);
+    for (i = 0; i < COUNT(too_great); i++) {
+        REFUSED(totals(first, length, &too_great[i], 1), STRIP_OUTSIDE_LIMITS, 0);
+        widths[63] = too_great[i];
+        REFUSED(totals(first, length, widths, 64), STRIP_OUTSIDE_LIMITS, 63);
+        REFUSED(strip_totals(first, length, widths, 64, NULL, 0), STRIP_OUTSIDE_LIMITS, 63);
+        REFUSED(totals(no_drawing, COUNT(no_drawing), widths, 64), STRIP_OUTSIDE_LIMITS, 63);
+        REFUSED(totals(first, length, widths, 65), STRIP_MANY_WIDTHS, 0);
+    }
+    widths[7] = 4096;
+    REFUSED(totals(first, length, widths, 64), STRIP_OUTSIDE_LIMITS, 7);
+    widths[7] = widths[63] = 4095;
+    REFUSED(strip_totals(first, length, widths, 64, room.totals, 63), STRIP_SLICE_SHORT, 0);
+    REFUSED(strip_totals(first, length, widths, 1, room.totals, 0), STRIP_SLICE_SHORT, 0);
+    assert(untouched());
+    assert(strip_totals(first, length, widths, 64, room.totals, 64) == 64);
+    for (i = 0; i < 64; i++)
+        assert(room.totals[i] == (widths[i] == 4095 ? 1 : STRIP_NO_TOTAL));
+    assert(room.totals[64] == 0xa5a5a5a5);
+    assert(STRIP_MAX_WIDTHS == 64 && STRIP_NO_TOTAL == UINT32_MAX);
 }
 
 /* Each refusal of a coordinate file and of its number list; sheets and files are not mixed up. */
@@ -260,6 +349,7 @@ static void parts(void) {
 
 /* NULL with length 0 is an empty slice, for each slice of each function. */
 static void empty_slices(void) {
+    const uint32_t width = 5;
     size_t length = COUNT(first), count = COUNT(first_numbers);
 
     paint();
@@ -280,6 +370,12 @@ static void empty_slices(void) {
     REFUSED(strip_check(first, length, NULL, 0, first_list, 8), 7, 0);
     REFUSED(strip_check(first, length, first_places, 3, NULL, 0), 7, 0);
     REFUSED(strip_narrowest(NULL, 0), 1, 0);
+    REFUSED(strip_totals(NULL, 0, NULL, 0, NULL, 0), 1, 0);
+    REFUSED(totals(NULL, 0, &width, 1), 1, 0);
+    REFUSED(strip_totals(first, length, &width, 1, NULL, 0), 7, 0);
+    assert(strip_totals(first, length, NULL, 0, NULL, 0) == 0);
+    assert(strip_totals(first, length, &width, 0, NULL, 0) == 0);
+    assert(totals(first, length, NULL, 0) == 0);
     REFUSED(strip_read_drawing(NULL, 0, NULL, 0), 1, 0);
     REFUSED(read_drawing(NULL, 0), 1, 0);
     REFUSED(strip_read_drawing(first_file, COUNT(first_file), NULL, 0), 7, 0);
@@ -342,6 +438,31 @@ static void greatest_sizes(void) {
     assert(strip_refusal(answer) == STRIP_OK && strip_second(answer) == 126);
 }
 
+/* Each of 64 totals of a sheet of full size is what drawing it with that width tells. The widths
+ * fall from 158 to 95, and the minimum width is 126. */
+static void most_widths(void) {
+    static uint16_t numbers[STRIP_MAX_NUMBERS];
+    size_t count = full_numbers(400, numbers), length;
+    uint32_t widths[STRIP_MAX_WIDTHS];
+    uint64_t answer;
+    uint16_t i;
+
+    paint();
+    length = strip_write(numbers, count, room.sheet, STRIP_MAX_SHEET_BYTES);
+    for (i = 0; i < STRIP_MAX_WIDTHS; i++)
+        widths[i] = 158u - i;
+    assert(totals(room.sheet, length, widths, STRIP_MAX_WIDTHS) == STRIP_MAX_WIDTHS);
+    assert(room.totals[STRIP_MAX_WIDTHS] == 0xa5a5a5a5);
+    for (i = 0; i < STRIP_MAX_WIDTHS; i++) {
+        numbers[0] = 158 - i;
+        length = strip_write(numbers, count, room.sheet, STRIP_MAX_SHEET_BYTES);
+        answer = draw(room.sheet, length);
+        if (widths[i] < 126)
+            REFUSED(answer, STRIP_NO_DRAWING, 0);
+        assert(room.totals[i] == (widths[i] < 126 ? STRIP_NO_TOTAL : answer));
+    }
+}
+
 /* A coordinate file of full size, 64 layers of 4 nodes, needs slices of just its own lengths. */
 static void greatest_file(void) {
     static uint16_t drawing[STRIP_MAX_DRAWING_NUMBERS];
@@ -398,10 +519,12 @@ static void prepare(uint16_t width, struct shared *s) {
     memcpy(s->places, room.places, sizeof s->places);
 }
 
-/* Draws both sheets by turns. */
+/* Draws both sheets by turns. They differ in their widths alone. */
 static void *draw_by_turns(void *nothing) {
+    const uint32_t widths[] = {400, 126};
     uint16_t places[STRIP_MAX_PLACES];
     int32_t list[STRIP_MAX_LIST];
+    uint32_t told[2];
     int round;
 
     pthread_barrier_wait(&start);
@@ -413,6 +536,8 @@ static void *draw_by_turns(void *nothing) {
         assert(strip_check(s->sheet, s->sheet_len, places, STRIP_MAX_PLACES, list,
                            STRIP_MAX_LIST) == 1);
         assert(strip_narrowest(s->sheet, s->sheet_len) == s->narrowest);
+        assert(strip_totals(s->sheet, s->sheet_len, widths, 2, told, 2) == 2);
+        assert(told[0] == shared[0].answer && told[1] == shared[1].answer);
     }
     return nothing;
 }
@@ -449,12 +574,15 @@ int main(void) {
     answers();
     parallel_edges();
     narrowest();
+    many_widths();
     coordinate_files();
     refusals();
+    width_refusals();
     file_refusals();
     parts();
     empty_slices();
     greatest_sizes();
+    most_widths();
     greatest_file();
     threads();
     puts("all as documents 01 and 02 say");

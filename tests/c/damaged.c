@@ -7,7 +7,8 @@
  * PLACEMENT says where the blocks are: `heap`, with contents that are not initialised; or `before`
  * and `behind` a page that nobody may touch. FAULT is `none` or a deliberate fault: with `read` and
  * `write` both readers get the length of the bytes or of the numbers as one more than it is; with
- * `undefined` the checker gets contents that nobody wrote.
+ * `widths` and `totals` strip_totals gets that of the widths or of the totals so; with `undefined`
+ * the checker gets contents that nobody wrote.
  */
 #define _DEFAULT_SOURCE
 #include <stdio.h>
@@ -15,6 +16,9 @@
 #include <string.h>
 #include <strip.h>
 #include <sys/mman.h>
+
+/* How many elements an array has. */
+#define COUNT(array) (sizeof(array) / sizeof(array)[0])
 
 /* The size of a page, and what blocks beside a page are filled with. */
 enum { PAGE = 4096, FILLING = 0xa5 };
@@ -47,8 +51,8 @@ struct item {
 /* Where blocks are. */
 static enum { HEAP, BEFORE, BEHIND } placement;
 
-/* The deliberate faults, 0 or 1 each. The first two are added to lengths. */
-static int read_fault, write_fault, undefined_fault;
+/* The deliberate faults, 0 or 1 each. All but the last are added to lengths. */
+static int read_fault, write_fault, widths_fault, totals_fault, undefined_fault;
 
 /* Ends the program with one line that says why. */
 static void fail(const char *why) {
@@ -195,7 +199,7 @@ static void try_drawing(const struct item *item, const void *bytes) {
 /* Checks places and a list in which every byte is the same. */
 static void try_check(const struct item *item, const void *bytes) {
     static const int fillings[] = {0x00, 0x7f, 0x80, 0xff};
-    for (size_t i = 0; i < sizeof fillings / sizeof *fillings; i++) {
+    for (size_t i = 0; i < COUNT(fillings); i++) {
         struct block sheet = copy_of(bytes, item->size);
         struct block places = take(2 * item->places), list = take(4 * item->list);
         if (!undefined_fault) {
@@ -213,6 +217,33 @@ static void try_check(const struct item *item, const void *bytes) {
 static void try_narrowest(const struct item *item, const void *bytes) {
     struct block sheet = copy_of(bytes, item->size);
     show("strip_narrowest", strip_narrowest(sheet.data, sheet.size));
+    give_back(sheet);
+}
+
+/* Tells the totals of a sheet at widths, in a slice of so many totals. */
+static void try_widths(struct block sheet, const uint32_t *list, size_t count, size_t length) {
+    struct block widths = copy_of(list, 4 * count), totals = take(4 * length);
+    uint64_t answer = strip_totals(sheet.data, sheet.size, widths.data, count + widths_fault,
+                                   totals.data, length + totals_fault);
+    show_written("strip_totals", answer, totals, 4 * count_in(answer));
+    give_back(totals);
+    give_back(widths);
+}
+
+/* Tells the totals of a sheet at no width; at three widths, in slices of the same three lengths;
+ * and at lists that are refused: for a width that is too great, before the slice that is too short,
+ * and for their length, before their widths. */
+static void try_totals(const struct item *item, const void *bytes) {
+    static const uint32_t good[] = {4095, 0, 4095}, too_great[] = {0, 4096};
+    uint32_t too_many[STRIP_MAX_WIDTHS + 1];
+    for (size_t i = 0; i < COUNT(too_many); i++)
+        too_many[i] = 4096;
+    struct block sheet = copy_of(bytes, item->size);
+    try_widths(sheet, good, 0, 0);
+    for (size_t length = COUNT(good) - 1; length <= COUNT(good) + 1; length++)
+        try_widths(sheet, good, COUNT(good), length);
+    try_widths(sheet, too_great, COUNT(too_great), COUNT(too_great) - 1);
+    try_widths(sheet, too_many, COUNT(too_many), COUNT(too_many));
     give_back(sheet);
 }
 
@@ -245,6 +276,7 @@ static const struct {
     {SHEET, try_drawing},
     {SHEET, try_check},
     {SHEET, try_narrowest},
+    {SHEET, try_totals},
     {NUMBERS, try_write_sheet},
     {COORDINATES, try_read_drawing},
     {COORDINATE_NUMBERS, try_write_drawing},
@@ -253,7 +285,7 @@ static const struct {
 /* Makes all calls for an item. */
 static void try_item(const struct item *item, const void *bytes) {
     int count = 0;
-    for (size_t i = 0; i < sizeof trials / sizeof *trials; i++) {
+    for (size_t i = 0; i < COUNT(trials); i++) {
         if (trials[i].kind == item->kind) {
             trials[i].run(item, bytes);
             count++;
@@ -291,9 +323,12 @@ static void set_placement(const char *name) {
 static void set_fault(const char *name) {
     read_fault = strcmp(name, "read") == 0;
     write_fault = strcmp(name, "write") == 0;
+    widths_fault = strcmp(name, "widths") == 0;
+    totals_fault = strcmp(name, "totals") == 0;
     undefined_fault = strcmp(name, "undefined") == 0;
-    if (!read_fault && !write_fault && !undefined_fault && strcmp(name, "none") != 0)
-        fail("the fault is none, read, write or undefined");
+    if (!read_fault && !write_fault && !widths_fault && !totals_fault && !undefined_fault &&
+        strcmp(name, "none") != 0)
+        fail("the fault is none, read, write, widths, totals or undefined");
 }
 
 /* Takes the arguments and tries the file. */

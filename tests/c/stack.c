@@ -30,6 +30,8 @@ static uint16_t drawing[STRIP_MAX_DRAWING_NUMBERS];
 static size_t drawing_len;
 static uint8_t file[STRIP_MAX_DRAWING_BYTES];
 static size_t file_len;
+static uint32_t total;
+static uint32_t widths[3], totals[3];
 static uint64_t answer;
 
 /* Reads the sheet. */
@@ -49,6 +51,7 @@ static void call_write(void) {
 static void call_draw(void) {
     answer = strip_draw(sheet, sheet_len, places, STRIP_MAX_PLACES, list, STRIP_MAX_LIST);
     assert(strip_refusal(answer) == STRIP_OK);
+    total = strip_value(answer);
 }
 
 /* Checks the drawing. */
@@ -61,6 +64,16 @@ static void call_check(void) {
 static void call_narrowest(void) {
     answer = strip_narrowest(sheet, sheet_len);
     assert(strip_refusal(answer) == STRIP_OK);
+}
+
+/* Tells the totals of the sheet at its own width, at one without a drawing, and at the greatest. */
+static void call_totals(void) {
+    widths[0] = numbers[0];
+    widths[1] = 0;
+    widths[2] = 4095;
+    answer = strip_totals(sheet, sheet_len, widths, 3, totals, 3);
+    assert(answer == 3);
+    assert(totals[0] == total && totals[1] == STRIP_NO_TOTAL && totals[2] <= total);
 }
 
 /* Lists the numbers of the drawing's coordinate file: the count of layers, each with its places. */
@@ -108,6 +121,7 @@ static struct {
     {"strip_draw", call_draw, 0},
     {"strip_check", call_check, 0},
     {"strip_narrowest", call_narrowest, 0},
+    {"strip_totals", call_totals, 0},
     {"strip_write_drawing", call_write_drawing, 0},
     {"strip_read_drawing", call_read_drawing, 0},
     {"strip_version", call_version, 0},

@@ -13,6 +13,7 @@ pub mod draw;
 pub mod format;
 pub mod narrowest;
 mod text;
+pub mod totals;
 
 pub use call::Call;
 
@@ -62,6 +63,7 @@ pub fn stored() -> Vec<Group> {
     groups.extend(check::stored());
     groups.extend(draw::stored());
     groups.extend(narrowest::stored());
+    groups.extend(totals::stored());
     groups.extend(coordinates::stored());
     groups
 }
@@ -72,6 +74,7 @@ pub fn others() -> Vec<Group> {
     groups.extend(check::others());
     groups.extend(draw::others());
     groups.extend(narrowest::others());
+    groups.extend(totals::others());
     groups.extend(coordinates::others());
     groups
 }

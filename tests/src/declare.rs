@@ -20,7 +20,7 @@ pub type Item = BTreeMap<&'static str, String>;
 const PARTS: [(&str, &str, &str); 14] = [
     (HEADER, "texts of refusals", "    case STRIP_{name}:\n        return \"{}\";"),
     ("crates/strip/exports.map", "functions", "        {name};"),
-    ("bindings/rust/src/lib.rs", "constants", "/// {comment}\npub const {name}: usize = {number};"),
+    ("bindings/rust/src/lib.rs", "constants", "/// {comment}\npub const {name}: {type} = {number};"),
     ("bindings/rust/src/lib.rs", "refusals", "    /// {comment}\n    pub const {name}: u32 = {number};"),
     ("bindings/rust/src/lib.rs", "texts of refusals", "        {number} => \"{}\","),
     ("bindings/rust/src/lib.rs", "functions", "        pub fn {name}({rust}) -> {result};"),
@@ -157,9 +157,18 @@ fn declaration(code: &str) -> Option<(&'static str, Item)> {
     } else {
         return Some(("functions", function(code)?));
     };
-    let number: u32 = number.parse().ok()?;
-    let item = [("name", name_of(name)?), ("number", number.to_string())];
-    Some((kind, Item::from(item)))
+    let (number, rust) = number_of(number)?;
+    let mut item = Item::from([("name", name_of(name)?), ("number", number.to_string())]);
+    item.insert("type", rust.to_string());
+    Some((kind, item))
+}
+
+/// A number with its type in Rust: a count in decimal, or a value of 32 bits in hexadecimal.
+fn number_of(text: &str) -> Option<(u32, &'static str)> {
+    match text.strip_prefix("0x") {
+        Some(digits) => Some((u32::from_str_radix(digits, 16).ok()?, "u32")),
+        None => Some((text.parse().ok()?, "usize")),
+    }
 }
 
 /// A function by its prototype; behind each slice stands its length.

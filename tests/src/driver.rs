@@ -12,6 +12,7 @@ use second::engine::draw;
 use second::minimum_width::minimum_width;
 use second::refusal::{Refusal, NO_DRAWING};
 use second::sheet::{read, write, NUMBER_LIMIT};
+use second::totals::{totals, WIDTHS_LIMIT};
 use second::{certificate, coordinates};
 
 pub use items::items;
@@ -30,7 +31,7 @@ const FILLINGS: [u8; 4] = [0x00, 0x7f, 0x80, 0xff];
 
 /// What the driver calls the functions with.
 pub enum Item {
-    /// The bytes of a sheet: read, drawn and checked, and its minimum width.
+    /// The bytes of a sheet: read, drawn and checked, its minimum width, and its totals at widths.
     Sheet(Vec<u8>),
     /// The number list of a sheet: written.
     Numbers(Vec<u16>),
@@ -119,6 +120,7 @@ pub fn calls(item: &Item) -> Vec<String> {
             }
             lines.extend(FILLINGS.map(|byte| checking(bytes, &needs, byte)));
             lines.push(narrowest(bytes));
+            lines.extend(lists().iter().map(|list| entries(bytes, list)));
         }
         Item::Numbers(numbers) => {
             lines.extend(writings("strip_write", write, numbers, needs.bytes));
@@ -195,6 +197,30 @@ fn narrowest(bytes: &[u8]) -> String {
     let second = answer.map_or(0, |minimum| u64::from(minimum.width) << 48);
     let word = second + number(answer.map(|minimum| minimum.total));
     format!("strip_narrowest {word:016x}")
+}
+
+/// Widths, and the length of the slice for their totals.
+type List = (Vec<u32>, usize);
+
+/// Lists of widths: none; three in slices of about their length; and such as are refused, for a width
+/// that is too great before the slice that is too short, and for their length before their widths.
+fn lists() -> Vec<List> {
+    let (good, too_many) = (vec![4095, 0, 4095], vec![4096; WIDTHS_LIMIT + 1]);
+    let mut lists = vec![(Vec::new(), 0)];
+    lists.extend(MORE.map(|more| (good.clone(), longer(good.len(), more))));
+    lists.push((vec![0, 4096], 1));
+    lists.push((too_many, WIDTHS_LIMIT + 1));
+    lists
+}
+
+/// The line for the totals of a sheet at widths.
+fn entries(bytes: &[u8], (widths, length): &List) -> String {
+    let mut slice = vec![0; *length];
+    let answer = totals(bytes, widths, &mut slice);
+    slice.truncate(answer.unwrap_or(0));
+    let written = slice.iter().flat_map(|entry| entry.to_le_bytes());
+    let count = answer.map(|count| count as u32);
+    shown("strip_totals", count, written.collect())
 }
 
 /// The line for an answer and the bytes of the elements written.

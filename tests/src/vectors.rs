@@ -12,12 +12,13 @@ use std::collections::HashSet;
 use crate::cases::{self, Call, Group, Line};
 
 /// The calls, each with a file of its name.
-pub const CALLS: [&str; 7] = [
+pub const CALLS: [&str; 8] = [
     "read",
     "write",
     "draw",
     "check",
     "narrowest",
+    "totals",
     "read_drawing",
     "write_drawing",
 ];

@@ -163,7 +163,7 @@ fn refusals_of_the_header_are_those_that_the_crates_give() {
         .map(|(n, name)| (own(name), n))
         .collect();
     assert_eq!(numbers("refusals"), given);
-    assert!(given.len() >= 9 && given.iter().all(|&(_, number)| number != 9));
+    assert!(given.len() >= 10 && given.iter().all(|&(_, number)| number != 9));
 }
 
 #[test]

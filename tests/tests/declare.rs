@@ -112,6 +112,19 @@ uint64_t strip_shape(const uint8_t *sheet, size_t sheet_len, float zoom,
 }
 
 #[test]
+fn a_count_is_in_decimal_and_a_value_in_hexadecimal() {
+    for (number, expected) in [
+        ("64", ["64", "usize"]),
+        ("0xFFFFFFFF", ["4294967295", "u32"]),
+        ("0x10", ["16", "u32"]),
+    ] {
+        let text = format!("/* A number. */\n#define STRIP_ONE {number}\n");
+        let item = only("constants", &text).expect("a constant");
+        assert_eq!(["number", "type"].map(|word| &item[word]), expected);
+    }
+}
+
+#[test]
 fn what_cannot_be_read_is_told() {
     for code in [
         "uint64_t strip_read(const uint8_t *sheet);",
@@ -135,6 +148,9 @@ fn what_cannot_be_read_is_told() {
         "static inline uint32_t strip_one(void) { return 1; } uint64_t strip_read(void);",
         "// a note",
         "#define STRIP_SIZE (1 << 3)",
+        "#define STRIP_SIZE 0x",
+        "#define STRIP_SIZE 0x100000000",
+        "#define STRIP_SIZE 0xFFu",
         "#define STRIP_MOST(x) 3",
         "#define STRIP_ONE 1\n#define STRIP_TWO 2",
         "enum {\nSTRIP_ONE,\n};",

@@ -9,6 +9,7 @@ use compare::grouped;
 use second::certificate::floor;
 use second::checker;
 use second::sheet::{EDGE_LIMIT, NUMBER_LIMIT, PLAIN, STRAIGHT, WIDTH_LIMIT};
+use second::totals::{totals as second_totals, NO_TOTAL, WIDTHS_LIMIT};
 use strip::{Narrowest, Refusal};
 use strip_tests::document;
 use strip_tests::draft::{Draft, Separation};
@@ -50,7 +51,7 @@ fn calls_have_the_refusals_of_the_header() {
             rows += 1;
         }
     }
-    assert!(rows >= 7, "{rows}");
+    assert!(rows >= 8, "{rows}");
 }
 
 /// Checks that both checkers say no.
@@ -118,6 +119,102 @@ fn narrowest_tests_the_width() {
     assert_eq!(strip::narrowest(&sheet(&[0x80, 0x80])), refusal(3, 3));
     let found = Ok(Narrowest { width: 0, total: 0 });
     assert_eq!(strip::narrowest(&sheet(&[0xff, 0x1f])), found);
+}
+
+/// The totals of a sheet at widths, in a slice of so many: both implementations tell the same, and leave
+/// the same in the slice.
+fn totals_in(bytes: &[u8], widths: &[u32], room: usize) -> Result<Vec<u32>, Refusal> {
+    let (mut proved, mut second) = (vec![9; room], vec![9; room]);
+    let answer = strip::totals(bytes, widths, &mut proved);
+    let other = second_totals(bytes, widths, &mut second);
+    let other = other.map_err(|told| Refusal {
+        number: told.number,
+        offset: told.offset as u32,
+    });
+    assert_eq!((&answer, &proved), (&other, &second), "{widths:?}");
+    let rest = proved.split_off(answer.unwrap_or(0));
+    assert!(rest.iter().all(|&element| element == 9), "{widths:?}");
+    answer.map(|_| proved)
+}
+
+/// Numbers as the page lists them.
+fn listed(numbers: &[u32]) -> String {
+    let numbers: Vec<String> = numbers.iter().map(u32::to_string).collect();
+    numbers.join(", ")
+}
+
+#[test]
+fn totals_of_the_stair_are_as_said() {
+    let bytes = document::stair(2, PLAIN).bytes();
+    let text: Vec<String> = bytes.iter().map(|byte| format!("{byte:02X}")).collect();
+    check_said(&format!("Document 01's stair, `{}`, has", text.join(" ")));
+    let rising = [0, 1, 2, 3, 4];
+    let entries = totals_in(&bytes, &rising, 5).expect("totals");
+    assert_eq!(entries, [NO_TOTAL, 2, 1, 0, 0]);
+    let (widths, entries) = (listed(&rising), listed(&entries));
+    check_said(&format!(
+        "At the widths {widths} its entries are {entries};"
+    ));
+    let any_order = [4, 1, 0, 1];
+    let entries = totals_in(&bytes, &any_order, 9).expect("totals");
+    let (list, entries) = (listed(&any_order), listed(&entries));
+    check_said(&format!("at {list} they are {entries}."));
+    let straight = document::stair(2, STRAIGHT).bytes();
+    let entries = listed(&totals_in(&straight, &rising, 5).expect("totals"));
+    check_said(&format!(
+        "(`01` at the end), they are {entries} at the widths {widths}."
+    ));
+}
+
+#[test]
+fn totals_are_below_what_stands_for_none() {
+    let most = u32::from(EDGE_LIMIT) * u32::from(WIDTH_LIMIT);
+    assert!(most < NO_TOTAL);
+    let (most, none) = (grouped(most as usize), grouped(NO_TOTAL as usize));
+    check_said(&format!(
+        "No total is as great as {none}: 512 edges of length 4,095 make {most}."
+    ));
+}
+
+#[test]
+fn totals_are_refused_in_the_order_of_the_page() {
+    let page = fs::read_to_string(root().join("docs/FORMAT.md")).expect("the page");
+    let heading = "\n## Totals at many widths\n";
+    let (_, section) = page.split_once(heading).expect(heading);
+    let (section, _) = section.split_once("\n## ").expect("an end");
+    let rows = section.lines().filter_map(|line| line.strip_prefix("| "));
+    let numbers: Vec<&str> = rows.filter_map(|row| row.split(" | ").next()).collect();
+    assert_eq!(numbers, ["refusal", "1 to 6", "11", "4", "7"]);
+    // each list has the faults of all rows from its own on
+    let mut many = [5; WIDTHS_LIMIT + 1];
+    many[63] = 65_541;
+    let sheet = document::first().bytes();
+    for (_, bytes) in document::REFUSED {
+        let read = strip::read(bytes, &mut [0; NUMBER_LIMIT]);
+        assert!(read.is_err());
+        assert_eq!(totals_in(bytes, &many, 0).err(), read.err());
+    }
+    assert_eq!(totals_in(&sheet, &many, 0), refusal(11, 0));
+    assert_eq!(totals_in(&sheet, &many[..64], 0), refusal(4, 63));
+    assert_eq!(totals_in(&sheet, &many[..63], 62), refusal(7, 0));
+    assert_eq!(totals_in(&sheet, &many[..63], 63), Ok(vec![1; 63]));
+}
+
+#[test]
+fn totals_need_no_drawing_at_the_width_of_the_sheet() {
+    check_said("a sheet that `draw` refuses with 8 is good here");
+    assert_eq!(
+        totals_in(&document::NO_DRAWING, &[1, 0], 2),
+        Ok(vec![0, NO_TOTAL])
+    );
+    let sheet = |width: &[u8]| [&document::ONE_NODE[..3], width, &document::ONE_NODE[4..]].concat();
+    assert_eq!(totals_in(&sheet(&[0x80, 0x20]), &[0], 1), refusal(4, 3));
+    assert_eq!(totals_in(&sheet(&[0x80, 0x80]), &[0], 1), refusal(3, 3));
+    check_said(
+        "A list without widths is good: the sheet is read and tested, and nothing is written.",
+    );
+    assert_eq!(totals_in(&document::NO_DRAWING, &[], 3), Ok(Vec::new()));
+    assert_eq!(totals_in(&document::NO_DRAWING[..8], &[], 3), refusal(1, 8));
 }
 
 #[test]

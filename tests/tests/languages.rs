@@ -200,13 +200,17 @@ fn tour_calls_all_functions() {
             command
         };
         let narrowest = "narrowest: width 1, total 2\n";
-        let told = format!("{narrowest}draw: refused 8 at 0: No drawing exists\n");
+        let totals = |width: u16, entry: &str| {
+            let lines = format!("width 1: total 2\nwidth {width}: {entry}\nwidth 4095: total 0\n");
+            format!("{narrowest}{lines}")
+        };
+        let told = totals(0, "no drawing") + "draw: refused 8 at 0: No drawing exists\n";
         check_ends(&mut tour("0"), 1, &told, 0);
         for width in [1, 2, 3, 4095] {
             let text = printed(&stair(width, PLAIN).bytes());
             let total = text.lines().next().expect("a total");
             let file = "file: 13 bytes, 10 numbers\n";
-            let told = format!("{narrowest}{total}\nchecked: yes\n{file}");
+            let told = totals(width, total) + &format!("{total}\nchecked: yes\n{file}");
             check_ends(&mut tour(&width.to_string()), 0, &told, 0);
         }
         for width in ["4096", "65535", "65536", "99999999999999999999"] {

@@ -101,6 +101,10 @@ fn there_are_items_of_every_kind_and_size() {
     assert!(count("strip_check 0000000000000001") > 300);
     // no width has a drawing
     assert!(count(" 0000000a00000000") > 50);
+    // three totals are told, or there are too many widths
+    let told = |start: &str| lines.iter().filter(|line| line.starts_with(start)).count();
+    assert!(told("strip_totals 0000000000000003 ") > 600);
+    assert!(told("strip_totals 0000000b00000000 ") > 300);
 }
 
 #[test]
@@ -185,7 +189,7 @@ fn valgrind_reports_deliberate_faults() {
 #[test]
 fn a_page_stops_one_byte_or_element_too_many() {
     let driver = driver("damaged-pages-fault", &[]);
-    for (fault, item, _) in faults().into_iter().take(4) {
+    for (fault, item, _) in faults().into_iter().take(6) {
         let file = file_of(&format!("pages-{fault}.items"), &[item]);
         let output = with_fault(&mut Command::new(&driver), "before", fault, &file);
         assert_eq!(output.status.code(), None, "{fault}: ended by a signal");
@@ -195,21 +199,27 @@ fn a_page_stops_one_byte_or_element_too_many() {
 #[test]
 fn an_element_written_between_a_slice_and_the_page_is_seen() {
     let driver = driver("damaged-beside-fault", &[]);
-    let file = file_of("beside-write.items", &[Item::sheet(&first())]);
-    let output = with_fault(&mut Command::new(&driver), "behind", "write", &file);
-    let errors = String::from_utf8_lossy(&output.stderr);
-    assert_eq!(output.status.code(), Some(1), "{errors}");
-    assert!(errors.contains("written outside its result"), "{errors}");
+    let file = file_of("beside.items", &[Item::sheet(&first())]);
+    for fault in ["write", "totals"] {
+        let output = with_fault(&mut Command::new(&driver), "behind", fault, &file);
+        let errors = String::from_utf8_lossy(&output.stderr);
+        assert_eq!(output.status.code(), Some(1), "{fault}: {errors}");
+        let line = "written outside its result";
+        assert!(errors.contains(line), "{fault}: {errors}");
+    }
 }
 
 #[test]
 fn the_address_sanitizer_reports_an_element_too_many() {
     let driver = driver("damaged-sanitizer-fault", &[SANITIZER]);
-    let file = file_of("sanitizer-write.items", &[Item::sheet(&first())]);
-    let output = with_fault(&mut Command::new(&driver), "heap", "write", &file);
-    let errors = String::from_utf8_lossy(&output.stderr);
-    assert!(!output.status.success(), "{errors}");
-    assert!(errors.contains("heap-buffer-overflow"), "{errors}");
+    let file = file_of("sanitizer-fault.items", &[Item::sheet(&first())]);
+    for fault in ["write", "totals"] {
+        let output = with_fault(&mut Command::new(&driver), "heap", fault, &file);
+        let errors = String::from_utf8_lossy(&output.stderr);
+        assert!(!output.status.success(), "{fault}: {errors}");
+        let report = "heap-buffer-overflow";
+        assert!(errors.contains(report), "{fault}: {errors}");
+    }
 }
 
 /// The first sheet of document 01.
@@ -219,13 +229,15 @@ fn first() -> Vec<u8> {
 
 /// The deliberate faults, each with an item that it shows on and the words of valgrind's report; pages
 /// show all but the last.
-fn faults() -> [(&'static str, Item, &'static str); 5] {
+fn faults() -> [(&'static str, Item, &'static str); 7] {
     let (sheet, (_, file, _)) = (first(), GOOD[0]);
     [
         ("read", Item::sheet(&sheet[..9]), "Invalid read of size 1"),
         ("write", Item::sheet(&sheet), "Invalid write of size 2"),
         ("read", Item::file(&file[..6]), "Invalid read of size 1"),
         ("write", Item::file(file), "Invalid write of size 2"),
+        ("widths", Item::sheet(&sheet), "Invalid read of size 4"),
+        ("totals", Item::sheet(&sheet), "Invalid write of size 4"),
         ("undefined", Item::sheet(&sheet), "uninitialised value"),
     ]
 }

@@ -195,7 +195,7 @@ fn picture_of_the_readme_has_the_places_of_the_panel() {
 fn functions_and_sizes_of_the_header_are_in_the_library_page() {
     let page = text(Path::new("docs/LIBRARY.md"));
     let names = functions();
-    assert!(names.len() >= 7, "{names:?}");
+    assert!(names.len() >= 9, "{names:?}");
     for name in names {
         // what it does, and its stack
         let row = format!("\n| `{name}` | ");
@@ -203,7 +203,7 @@ fn functions_and_sizes_of_the_header_are_in_the_library_page() {
     }
     let mut sizes = numbers("constants");
     sizes.retain(|(name, _)| name.starts_with("MAX_"));
-    assert!(sizes.len() >= 6, "{sizes:?}");
+    assert!(sizes.len() >= 7, "{sizes:?}");
     for (name, number) in sizes {
         let row = format!(" | `STRIP_{name}`, {} |\n", grouped(number as usize));
         assert!(page.contains(&row), "{row}");

@@ -1,5 +1,5 @@
 //! Path strips: read, write, draw and check sheets with the proved library, tell their minimum
-//! width, and read and write coordinate files, which hold drawings.
+//! width and their totals at other widths, and read and write coordinate files, which hold drawings.
 //!
 //! Every input is allowed: what has no answer is refused, with a number and an offset. On a refusal
 //! no slice is written. Elements behind the last one written keep their contents. The functions
@@ -34,6 +34,10 @@ pub const MAX_LIST: usize = 1024;
 pub const MAX_DRAWING_NUMBERS: usize = 321;
 /// No coordinate file has more bytes.
 pub const MAX_DRAWING_BYTES: usize = 645;
+/// The greatest count of widths in a list of widths.
+pub const MAX_WIDTHS: usize = 64;
+/// Stands among totals for a width at which the sheet has no drawing. No total is as great.
+pub const NO_TOTAL: u32 = 4294967295;
 /// The stack that any of the functions needs, in bytes.
 pub const STACK_BYTES: usize = 53248;
 // generated from strip.h, constants: end
@@ -44,7 +48,7 @@ pub struct Refusal {
     /// One of the numbers below.
     pub number: u32,
     /// The offset of a byte in the sheet or file, from 0; for [`write`] and [`write_drawing`] the
-    /// index of a number.
+    /// index of a number, for a width of [`totals`] its index in the list of widths.
     pub offset: u32,
 }
 
@@ -59,7 +63,8 @@ impl Refusal {
     /// A number is not in the fewest bytes, or takes more than two. The offset is that of the
     /// number's first byte.
     pub const NUMBER_FORM: u32 = 3;
-    /// A number lies outside its limits. The offset is that of the number's first byte.
+    /// A number lies outside its limits. The offset is that of the number's first byte; of a width
+    /// in a list of widths, its index there.
     pub const OUTSIDE_LIMITS: u32 = 4;
     /// A maximum separation is set and is below its minimum separation. The offset is that of the
     /// maximum's first byte.
@@ -67,12 +72,15 @@ impl Refusal {
     /// Something follows the last edge of a sheet, or the last node of a coordinate file. The
     /// offset is that of the first byte too many.
     pub const SOMETHING_FOLLOWS: u32 = 6;
-    /// A slice is too short for what is to be read or written there. The offset is 0.
+    /// A slice is too short for what is to be read or written there. The slice for totals is too
+    /// short if it has fewer elements than there are widths. The offset is 0.
     pub const SLICE_SHORT: u32 = 7;
     /// No drawing exists. The offset is 0.
     pub const NO_DRAWING: u32 = 8;
     /// No width from 0 to 4,095 has a drawing. The offset is 0.
     pub const NO_WIDTH: u32 = 10;
+    /// There are more than 64 widths. The offset is 0.
+    pub const MANY_WIDTHS: u32 = 11;
     // generated from strip.h, refusals: end
 }
 
@@ -104,6 +112,7 @@ fn text_of(number: u32) -> &'static str {
         7 => "A slice is too short for what is to be read or written there",
         8 => "No drawing exists",
         10 => "No width from 0 to 4,095 has a drawing",
+        11 => "There are more than 64 widths",
         // generated from strip.h, texts of refusals: end
         _ => "No refusal has this number",
     }
@@ -165,6 +174,14 @@ mod raw {
             list_len: usize,
         ) -> u64;
         pub fn strip_narrowest(sheet: *const u8, sheet_len: usize) -> u64;
+        pub fn strip_totals(
+            sheet: *const u8,
+            sheet_len: usize,
+            widths: *const u32,
+            widths_len: usize,
+            totals: *mut u32,
+            totals_len: usize,
+        ) -> u64;
         pub fn strip_read_drawing(
             file: *const u8,
             file_len: usize,
@@ -294,6 +311,39 @@ pub fn narrowest(sheet: &[u8]) -> Result<Narrowest, Refusal> {
         width: (answer >> 48) as u16,
         total,
     })
+}
+
+/// Writes the least total of a sheet at each width of a list into the front of a slice, and gives
+/// the count of totals, one for each width. The sheet's own width does not count.
+///
+/// An entry is the total that [`draw`] gives for the sheet with that width, or [`NO_TOTAL`] if there
+/// is no drawing. Widths may repeat and stand in any order.
+///
+/// Refusals 1 to 6 of the sheet; 11 if there are more than [`MAX_WIDTHS`] widths; 4 for the first
+/// width above 4,095, its index as the offset; 7 if there are fewer totals than widths.
+///
+/// ```
+/// // two nodes that are 3 or more apart, over one node with an edge to each
+/// let sheet = [0x53, 0x50, 0x31, 0, 2, 2, 3, 0, 1, 2, 1, 1, 1, 0, 1, 2, 1, 0];
+/// let mut totals = [0; 3];
+/// assert_eq!(strip::totals(&sheet, &[4095, 2, 3], &mut totals), Ok(3));
+/// assert_eq!(totals, [3, strip::NO_TOTAL, 3]);
+/// let refusal = strip::totals(&sheet, &[3, 4096], &mut totals).unwrap_err();
+/// assert_eq!(refusal.to_string(), "refused 4 at 1");
+/// ```
+pub fn totals(sheet: &[u8], widths: &[u32], totals: &mut [u32]) -> Result<usize, Refusal> {
+    // SAFETY: as in `read`, with one slice more.
+    let answer = unsafe {
+        raw::strip_totals(
+            sheet.as_ptr(),
+            sheet.len(),
+            widths.as_ptr(),
+            widths.len(),
+            totals.as_mut_ptr(),
+            totals.len(),
+        )
+    };
+    value(answer).map(|count| count as usize)
 }
 
 /// Reads a coordinate file into the front of a slice, and gives the count of numbers: the count of

@@ -1,14 +1,14 @@
 /*
- * Path strips: read, write, draw and check sheets, tell their minimum width, and read and write
- * coordinate files, which hold drawings.
+ * Path strips: read, write, draw and check sheets, tell their minimum width and their totals at
+ * other widths, and read and write coordinate files, which hold drawings.
  *
  * A slice is a pointer to its first element and the count of its elements. An answer is one number
  * of 64 bits: strip_refusal() is 0 where the call succeeded, and strip_value() is then its result.
  * Otherwise strip_refusal() says why there is none, and strip_value() where: the offset of a byte
- * in the sheet or file (for strip_write and strip_write_drawing the index of a number), from 0.
- * strip_second() is the second result of strip_narrowest; it is 0 on every refusal and in every
- * other call. On a refusal no slice is written. Elements behind the last one written keep their
- * contents.
+ * in the sheet or file (for strip_write and strip_write_drawing the index of a number, for a width
+ * of strip_totals its index in the list of widths), from 0. strip_second() is the second result of
+ * strip_narrowest; it is 0 on every refusal and in every other call. On a refusal no slice is
+ * written. Elements behind the last one written keep their contents.
  *
  * What the caller sees to: pointers are valid for as many elements as the count says, and aligned.
  * A slice that is written overlaps no other. A pointer may be NULL where the count is 0. Apart from
@@ -41,9 +41,9 @@ extern "C" {
 
 /* The version that this header belongs to, as text and in its parts. Libraries of the same MAJOR
  * and MINOR give the same answers. */
-#define STRIP_VERSION "0.6.0"
+#define STRIP_VERSION "0.7.0"
 #define STRIP_VERSION_MAJOR 0
-#define STRIP_VERSION_MINOR 6
+#define STRIP_VERSION_MINOR 7
 #define STRIP_VERSION_PATCH 0
 
 /* No sheet has more bytes. */
@@ -59,6 +59,10 @@ extern "C" {
 #define STRIP_MAX_DRAWING_NUMBERS 321
 /* No coordinate file has more bytes. */
 #define STRIP_MAX_DRAWING_BYTES 645
+/* The greatest count of widths in a list of widths. */
+#define STRIP_MAX_WIDTHS 64
+/* Stands among totals for a width at which the sheet has no drawing. No total is as great. */
+#define STRIP_NO_TOTAL 0xFFFFFFFF
 /* The stack that any of the functions needs, in bytes. */
 #define STRIP_STACK_BYTES 53248
 
@@ -75,7 +79,8 @@ enum {
     /* A number is not in the fewest bytes, or takes more than two. The offset is that of the
      * number's first byte. */
     STRIP_NUMBER_FORM = 3,
-    /* A number lies outside its limits. The offset is that of the number's first byte. */
+    /* A number lies outside its limits. The offset is that of the number's first byte; of a width
+     * in a list of widths, its index there. */
     STRIP_OUTSIDE_LIMITS = 4,
     /* A maximum separation is set and is below its minimum separation. The offset is that of the
      * maximum's first byte. */
@@ -83,12 +88,15 @@ enum {
     /* Something follows the last edge of a sheet, or the last node of a coordinate file. The
      * offset is that of the first byte too many. */
     STRIP_SOMETHING_FOLLOWS = 6,
-    /* A slice is too short for what is to be read or written there. The offset is 0. */
+    /* A slice is too short for what is to be read or written there. The slice for totals is too
+     * short if it has fewer elements than there are widths. The offset is 0. */
     STRIP_SLICE_SHORT = 7,
     /* No drawing exists. The offset is 0. */
     STRIP_NO_DRAWING = 8,
     /* No width from 0 to 4,095 has a drawing. The offset is 0. */
-    STRIP_NO_WIDTH = 10
+    STRIP_NO_WIDTH = 10,
+    /* There are more than 64 widths. The offset is 0. */
+    STRIP_MANY_WIDTHS = 11
 };
 
 /* Reads the number list of a sheet into the front of numbers. The value is the count of numbers.
@@ -127,6 +135,17 @@ uint64_t strip_check(const uint8_t *sheet, size_t sheet_len,
  * to 6 and 10. */
 STRIP_NODISCARD
 uint64_t strip_narrowest(const uint8_t *sheet, size_t sheet_len);
+
+/* Tells the least total of a sheet at each of up to STRIP_MAX_WIDTHS widths, whatever its own width
+ * is. For each width, in the list's order, it writes into the front of totals what strip_draw tells
+ * of the sheet with this width: the total, or STRIP_NO_TOTAL if there is no drawing. Widths may
+ * repeat and stand in any order. The value is the count of totals, one for each width. Refusals 1
+ * to 7 and 11. They are tested in this order: 1 to 6 of the sheet, 11, 4 of the first width above
+ * 4,095, 7. STRIP_MAX_WIDTHS elements are enough for every list of widths. */
+STRIP_NODISCARD
+uint64_t strip_totals(const uint8_t *sheet, size_t sheet_len,
+                      const uint32_t *widths, size_t widths_len,
+                      uint32_t *totals, size_t totals_len);
 
 /* Reads a coordinate file into the front of numbers: the count of layers, then for each layer its
  * count of nodes and their places. The value is the count of numbers. Refusals 1, 2, 3, 4, 6 and 7.
@@ -182,6 +201,8 @@ static inline const char *strip_refusal_text(uint32_t number) {
         return "No drawing exists";
     case STRIP_NO_WIDTH:
         return "No width from 0 to 4,095 has a drawing";
+    case STRIP_MANY_WIDTHS:
+        return "There are more than 64 widths";
     /* generated from strip.h, texts of refusals: end */
     default:
         return number == STRIP_OK ? "The call succeeded" : "No refusal has this number";

@@ -98,10 +98,10 @@ pub fn written_back(
 }
 
 /// A count or a refusal, and the slice after the call.
-type Filled<T> = (Result<usize, Refusal>, Vec<T>);
+pub type Filled<T> = (Result<usize, Refusal>, Vec<T>);
 
 /// Calls with a slice of so many elements that all hold the same.
-fn lent<T: Clone>(
+pub fn lent<T: Clone>(
     filling: T,
     room: usize,
     call: impl FnOnce(&mut [T]) -> Result<usize, Refusal>,
@@ -112,7 +112,7 @@ fn lent<T: Clone>(
 }
 
 /// Compares two answers with their slices, and gives the elements written.
-fn same<T: PartialEq>(
+pub fn same<T: PartialEq>(
     (found, theirs): Filled<T>,
     (expected, mut ours): Filled<T>,
     told: impl Fn() -> String,

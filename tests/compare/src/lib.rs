@@ -13,12 +13,14 @@ mod narrowest;
 mod near;
 pub mod page;
 mod tally;
+pub mod totals;
 
 use second::drawing::Sheet;
 use second::minimum_width::Minimum;
 use second::refusal::Refusal;
 use strip_tests::cases::Call;
 use strip_tests::random::Random;
+use totals::Entries;
 
 pub use checking::judge;
 pub use format::{read, read_into, write, write_into, Format};
@@ -32,13 +34,15 @@ pub struct Outcome {
     pub drawn: Result<(u32, Vec<u16>), Refusal>,
     /// The minimum width with the least total there, or why there is none.
     pub minimum: Result<Minimum, Refusal>,
+    /// The totals at widths.
+    pub entries: Entries,
     pub yes: usize,
     pub no: usize,
 }
 
 /// Compares all that is answered to these bytes: reading them as a sheet and as a coordinate file,
 /// writing what is read, drawing, the coordinate file of the drawing, checking the drawing and near
-/// misses of it, and the minimum width.
+/// misses of it, the minimum width, and the totals at other widths.
 pub fn sheet(library: &impl Library, bytes: &[u8]) -> Outcome {
     let mut random = Random::new(seed(bytes));
     for format in [Format::Sheet, Format::Coordinates] {
@@ -57,9 +61,11 @@ pub fn sheet(library: &impl Library, bytes: &[u8]) -> Outcome {
             let minimum = narrowest::good(library, bytes, &numbers);
             let is_enough = minimum.is_ok_and(|minimum| minimum.width <= sheet.width);
             assert_eq!(drawn.is_ok(), is_enough, "{minimum:?} of {bytes:02x?}");
+            let least = minimum.ok().map(|minimum| minimum.width);
             Outcome {
                 drawn: drawn.map(|drawn| (drawn.total, drawn.places)),
                 minimum,
+                entries: totals::good(library, bytes, &numbers, least),
                 yes,
                 no,
             }
@@ -67,9 +73,11 @@ pub fn sheet(library: &impl Library, bytes: &[u8]) -> Outcome {
         Err(refusal) => {
             drawing::bad(library, bytes);
             checking::bad(library, bytes);
+            totals::bad(library, bytes);
             Outcome {
                 drawn: Err(refusal),
                 minimum: narrowest::told(library, bytes),
+                entries: Entries::default(),
                 yes: 0,
                 no: 0,
             }
@@ -99,6 +107,11 @@ pub fn call(library: &impl Library, call: &Call) -> Option<Result<bool, Refusal>
             list,
         } => Some(drawing::into(library, bytes, *places, *list).map(|_| true)),
         Call::Narrowest { bytes } => Some(narrowest::told(library, bytes).map(|_| true)),
+        Call::Totals {
+            bytes,
+            widths,
+            room,
+        } => Some(totals::into(library, bytes, widths, *room).map(|_| true)),
         Call::ReadDrawing { file, room } => {
             Some(read_into(library, Format::Coordinates, file, *room).map(|_| true))
         }

@@ -35,6 +35,12 @@ pub trait Library {
         strip::narrowest(sheet).map(minimum).map_err(refusal)
     }
 
+    /// Writes the least total of a sheet at each of some widths into the front of a slice, and gives
+    /// their count.
+    fn totals(&self, sheet: &[u8], widths: &[u32], totals: &mut [u32]) -> Result<usize, Refusal> {
+        strip::totals(sheet, widths, totals).map_err(refusal)
+    }
+
     /// Reads the numbers of a coordinate file into the front of a slice, and gives their count.
     fn read_drawing(&self, file: &[u8], numbers: &mut [u16]) -> Result<usize, Refusal> {
         strip::read_drawing(file, numbers).map_err(refusal)

@@ -42,6 +42,6 @@ pub fn good(library: &impl Library, bytes: &[u8], numbers: &[u16]) -> Result<Min
 }
 
 /// The sheet of these numbers in another width.
-fn in_width(numbers: &[u16], width: u16) -> Vec<u8> {
+pub fn in_width(numbers: &[u16], width: u16) -> Vec<u8> {
     encode(&[&[width], &numbers[1..]].concat())
 }

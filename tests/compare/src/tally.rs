@@ -2,6 +2,7 @@
 
 use std::env;
 
+use crate::totals::Entries;
 use crate::{page, sheet, Library, Outcome};
 use second::refusal::{Refusal, NO_DRAWING, NO_WIDTH};
 use strip_tests::draft::Draft;
@@ -32,6 +33,8 @@ pub struct Tally {
     pub narrowed: usize,
     /// Refused by the call that tells the minimum width: no width has a drawing.
     pub without_width: usize,
+    /// The totals at widths.
+    pub entries: Entries,
     /// What the checkers said to drawings and near misses.
     pub yes: usize,
     pub no: usize,
@@ -68,6 +71,7 @@ impl Tally {
     /// Counts one more sheet.
     pub fn add(&mut self, outcome: &Outcome) {
         self.sheets += 1;
+        self.entries.add(&outcome.entries);
         self.yes += outcome.yes;
         self.no += outcome.no;
         match &outcome.drawn {
@@ -83,7 +87,8 @@ impl Tally {
         }
     }
 
-    /// Prints a line with all counts, and checks those that the page has.
+    /// Prints a line with all counts, and checks those that the page has, and that some sheets had a list
+    /// of 64 widths.
     pub fn print(&self, kind: &str) {
         let mut line = format!("compared: {} {kind}", grouped(self.sheets));
         line += &format!(": {} drawn", grouped(self.drawn));
@@ -94,9 +99,13 @@ impl Tally {
         }
         let (narrowed, without) = (grouped(self.narrowed), grouped(self.without_width));
         line += &format!("; minimum width: {narrowed} told, {without} refused {NO_WIDTH}");
+        let [full_lists, totals, without] = self.entries.row().map(grouped);
+        line += &format!("; {full_lists} lists of 64 widths: {totals} totals, {without} without");
         let (yes, no) = (grouped(self.yes), grouped(self.no));
         println!("{line}; checked: {yes} yes, {no} no");
         page::check_row(kind, &self.row());
+        page::check_row(kind, &self.entries.row());
+        assert!(self.entries.full_lists > 0, "{kind}: no list of 64 widths");
     }
 
     /// The counts as the page has them.

@@ -25,6 +25,12 @@ pub enum Call {
     },
     /// Tells the minimum width of a sheet.
     Narrowest { bytes: Vec<u8> },
+    /// Writes the totals of a sheet at widths into a slice of so many totals.
+    Totals {
+        bytes: Vec<u8>,
+        widths: Vec<u32>,
+        room: usize,
+    },
     /// Reads a coordinate file into a slice of so many numbers.
     ReadDrawing { file: Vec<u8>, room: usize },
     /// Writes the coordinate file of a list into a slice of so many bytes.

@@ -16,6 +16,9 @@
 //!   The answer ends in the checker's word on that sheet and these slices.
 //! - `N` tells the minimum width of the sheet whose bytes are the payload, and the least total there;
 //!   both numbers are 0.
+//! - `T` writes the totals of a sheet at so many widths, the second number, into a slice of so many
+//!   totals, the first. The widths are the payload, in eight digits each, and the bytes of the sheet
+//!   behind them.
 //! - `F` reads the coordinate file whose bytes are the payload into a slice of so many numbers; the
 //!   second number is 0.
 //! - `S` writes the coordinate file whose number list is the payload into a slice of so many bytes; the
@@ -25,6 +28,7 @@
 //! as it is after the call.
 
 use std::fmt::{Display, LowerHex};
+use std::mem::size_of;
 
 use second::certificate;
 use second::checker::check;
@@ -35,6 +39,7 @@ use second::minimum_width::minimum_width;
 use second::number::{self, Placed};
 use second::refusal::Refusal;
 use second::sheet;
+use second::totals::totals;
 
 use super::{Call, Line};
 
@@ -42,8 +47,10 @@ use super::{Call, Line};
 const BYTE_FILL: u8 = 0xa5;
 /// What every number or place of a slice holds before the call.
 const NUMBER_FILL: u16 = 0xa5a5;
+/// What every total of a slice holds before the call.
+const TOTAL_FILL: u32 = 0xa5a5_a5a5;
 /// What every list number of a slice holds before the call.
-const LIST_FILL: i32 = 0xa5a5_a5a5_u32 as i32;
+const LIST_FILL: i32 = TOTAL_FILL as i32;
 
 impl Line {
     /// The line of input.
@@ -97,6 +104,14 @@ impl Call {
                 list,
             } => ('D', *places, *list, digits(bytes, 2, "")),
             Call::Narrowest { bytes } => ('N', 0, 0, digits(bytes, 2, "")),
+            Call::Totals {
+                bytes,
+                widths,
+                room,
+            } => {
+                let payload = digits(widths, 8, "") + &digits(bytes, 2, "");
+                ('T', *room, widths.len(), payload)
+            }
             Call::ReadDrawing { file, room } => ('F', *room, 0, digits(file, 2, "")),
             Call::WriteDrawing { numbers, room } => ('S', *room, 0, digits(numbers, 4, "")),
         };
@@ -106,8 +121,12 @@ impl Call {
     /// The line of output.
     fn output(&self) -> String {
         match self {
-            Call::Read { bytes, room } => read(*room, |slice| sheet::read(bytes, slice)),
-            Call::Write { numbers, room } => write(*room, |slice| sheet::write(numbers, slice)),
+            Call::Read { bytes, room } => {
+                filled(NUMBER_FILL, *room, |slice| sheet::read(bytes, slice))
+            }
+            Call::Write { numbers, room } => {
+                filled(BYTE_FILL, *room, |slice| sheet::write(numbers, slice))
+            }
             Call::ReadNumber { bytes, at } => match number::read(bytes, *at) {
                 Ok((value, next)) => format!("value {value} next {next}"),
                 Err(refusal) => refused(refusal),
@@ -135,26 +154,30 @@ impl Call {
                 Ok(minimum) => format!("narrowest {} {}", minimum.width, minimum.total),
                 Err(refusal) => refused(refusal),
             },
-            Call::ReadDrawing { file, room } => read(*room, |slice| coordinates::read(file, slice)),
+            Call::Totals {
+                bytes,
+                widths,
+                room,
+            } => filled(TOTAL_FILL, *room, |slice| totals(bytes, widths, slice)),
+            Call::ReadDrawing { file, room } => {
+                filled(NUMBER_FILL, *room, |slice| coordinates::read(file, slice))
+            }
             Call::WriteDrawing { numbers, room } => {
-                write(*room, |slice| coordinates::write(numbers, slice))
+                filled(BYTE_FILL, *room, |slice| coordinates::write(numbers, slice))
             }
         }
     }
 }
 
-/// The line of output of a reader, with a slice of so many numbers.
-fn read(room: usize, call: impl FnOnce(&mut [u16]) -> Result<usize, Refusal>) -> String {
-    let mut slice = vec![NUMBER_FILL; room];
+/// The line of output of a call that fills a slice of so many elements.
+fn filled<T: Clone + LowerHex>(
+    filling: T,
+    room: usize,
+    call: impl FnOnce(&mut [T]) -> Result<usize, Refusal>,
+) -> String {
+    let mut slice = vec![filling; room];
     let answer = answered("done", call(&mut slice));
-    answer + ":" + &digits(&slice, 4, " ")
-}
-
-/// The line of output of a writer, with a slice of so many bytes.
-fn write(room: usize, call: impl FnOnce(&mut [u8]) -> Result<usize, Refusal>) -> String {
-    let mut slice = vec![BYTE_FILL; room];
-    let answer = answered("done", call(&mut slice));
-    answer + ":" + &digits(&slice, 2, " ")
+    answer + ":" + &digits(&slice, 2 * size_of::<T>(), " ")
 }
 
 /// The line of output of a drawing.

@@ -9,6 +9,7 @@ use second::engine::draw;
 use second::minimum_width::minimum_width;
 use second::refusal::Refusal;
 use second::sheet;
+use second::totals::totals;
 
 use crate::cases::Call;
 
@@ -32,6 +33,14 @@ pub fn question(call: &Call) -> Option<(&'static str, String)> {
             ("check", fields.join(" "))
         }
         Call::Narrowest { bytes } => ("narrowest", hexadecimal(bytes)),
+        Call::Totals {
+            bytes,
+            widths,
+            room,
+        } => {
+            let fields = format!("{room} {} {}", listed(widths), hexadecimal(bytes));
+            ("totals", fields)
+        }
         Call::ReadDrawing { file, room } => {
             ("read_drawing", format!("{room} {}", hexadecimal(file)))
         }
@@ -60,6 +69,11 @@ pub fn answer(call: &Call) -> String {
         Call::Narrowest { bytes } => {
             minimum_width(bytes).map(|found| format!("{} {}", found.width, found.total))
         }
+        Call::Totals {
+            bytes,
+            widths,
+            room,
+        } => numbers(*room, |slice| totals(bytes, widths, slice)),
         Call::ReadDrawing { file, room } => numbers(*room, |slice| coordinates::read(file, slice)),
         Call::WriteDrawing { numbers, room } => {
             bytes(*room, |slice| coordinates::write(numbers, slice))
@@ -69,13 +83,13 @@ pub fn answer(call: &Call) -> String {
     answer.unwrap_or_else(refused)
 }
 
-/// The numbers that a reader leaves in a slice of so many elements.
-fn numbers(
+/// The numbers that a call leaves in a slice of so many elements.
+fn numbers<T: Clone + Default + Display>(
     room: usize,
-    read: impl FnOnce(&mut [u16]) -> Result<usize, Refusal>,
+    call: impl FnOnce(&mut [T]) -> Result<usize, Refusal>,
 ) -> Result<String, Refusal> {
-    let mut slice = vec![0; room];
-    let count = read(&mut slice)?;
+    let mut slice = vec![T::default(); room];
+    let count = call(&mut slice)?;
     Ok(listed(&slice[..count]))
 }
 
