@@ -13,8 +13,8 @@ use Rattle.rolls.specs.Totals.{Written}
 pub data Shown : Type 0 where
   -- this total at these coordinates, and a list that shows no total to be smaller
   total : ℕ → List ℕ → List ℤ → Shown
-  -- the mark: a list that shows that there is no drawing
-  mark : List ℤ → Shown
+  -- no total: a list that shows that there is no drawing
+  undrawable : List ℤ → Shown
 
 -- a width and its entry
 pub record Column : Type 0 where
@@ -29,7 +29,7 @@ pub record EntryRow : Type 0 where
 -- the number of an entry
 abbrev pub shown-entry : Shown → ℕ
 shown-entry (total t places list) = t
-shown-entry (mark list) = no-total
+shown-entry (undrawable list) = no-total
 
 -- the widths of columns
 abbrev pub widths-of : List Column → List ℕ
@@ -68,7 +68,7 @@ crossing = +1 ∷ −1 ∷ +0 ∷ +1 ∷ +0 ∷ +0 ∷ +0 ∷ +1 ∷ +0 ∷ +0 �
 unfoldable pub entry-table : List EntryRow
 entry-table =
     row (stair 0 0) (
-    at 0 (mark no-stair)
+    at 0 (undrawable no-stair)
     ∷ at 1 (total 2 (0 ∷ 1 ∷ 0 ∷ 1 ∷ 0 ∷ 1 ∷ []) stairs)
     ∷ at 2 (total 1 (0 ∷ 1 ∷ 0 ∷ 1 ∷ 1 ∷ 2 ∷ []) stairs)
     ∷ at 3 (total 0 (0 ∷ 1 ∷ 1 ∷ 2 ∷ 2 ∷ 3 ∷ []) (zeros 14))
@@ -76,17 +76,17 @@ entry-table =
     ∷ []
     )
     ∷ row (stair 3 1) (
-    at 0 (mark no-stair)
-    ∷ at 1 (mark (+0 ∷ −1 ∷ +0 ∷ +0 ∷ +0 ∷ +0 ∷ +1 ∷ +1 ∷ +0 ∷ +0 ∷ +0 ∷ +1 ∷ +0 ∷ +1 ∷ []))
+    at 0 (undrawable no-stair)
+    ∷ at 1 (undrawable (+0 ∷ −1 ∷ +0 ∷ +0 ∷ +0 ∷ +0 ∷ +1 ∷ +1 ∷ +0 ∷ +0 ∷ +0 ∷ +1 ∷ +0 ∷ +1 ∷ []))
     ∷ at 2 (total 1 (0 ∷ 1 ∷ 0 ∷ 1 ∷ 1 ∷ 2 ∷ []) stairs)
     ∷ at 3 (total 0 (0 ∷ 1 ∷ 1 ∷ 2 ∷ 2 ∷ 3 ∷ []) (zeros 14))
     ∷ at 4 (total 0 (0 ∷ 1 ∷ 1 ∷ 2 ∷ 2 ∷ 3 ∷ []) (zeros 14))
     ∷ []
     )
-    ∷ row crossed-edges (at 4095 (mark crossing) ∷ at 1 (mark crossing) ∷ at 4095 (mark crossing) ∷ [])
+    ∷ row crossed-edges (at 4095 (undrawable crossing) ∷ at 1 (undrawable crossing) ∷ at 4095 (undrawable crossing) ∷ [])
     ∷ row first (
     at 5 (total 1 (0 ∷ 1 ∷ 0 ∷ []) (+1 ∷ −1 ∷ +0 ∷ +1 ∷ +0 ∷ +0 ∷ +0 ∷ +0 ∷ []))
-    ∷ at 0 (mark (+0 ∷ +0 ∷ +1 ∷ +1 ∷ +0 ∷ +1 ∷ +0 ∷ +0 ∷ []))
+    ∷ at 0 (undrawable (+0 ∷ +0 ∷ +1 ∷ +1 ∷ +0 ∷ +1 ∷ +0 ∷ +0 ∷ []))
     ∷ []
     )
     ∷ row first []

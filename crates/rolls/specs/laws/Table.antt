@@ -33,14 +33,14 @@ use Rattle.rolls.specs.Limits.{max-widths}
 use Rattle.rolls.specs.Totals.{Entry, Entries, Leaves, first-outside, widths-answer, Written}
 use Rattle.rolls.specs.Totals.Entry.{drawn, none}
 use Rattle.rolls.specs.Table.{Shown, Column, EntryRow, shown-entry, widths-of, entries-of, EveryEntry, entry-table}
-use Rattle.rolls.specs.Table.Shown.{total, mark}
+use Rattle.rolls.specs.Table.Shown.{total, undrawable}
 use Rattle.rolls.specs.laws.Answers.{answer-wrote}
 use Rattle.rolls.specs.laws.Entries.{totals-determined}
 
 -- the test of a column, of a sheet's numbers
 abbrev pub passes : List ℕ → ℕ → Shown → Bool
 passes s w (total t p y) = judged (sheet-of (with-width w s)) p y && eqb t (total-length (sheet-of (with-width w s)) p)
-passes s w (mark y) = shows-none (sheet-of (with-width w s)) y
+passes s w (undrawable y) = shows-none (sheet-of (with-width w s)) y
 
 -- the test of a list of columns: few widths, none outside its limits, and each column passes
 abbrev pub passes-all : List ℕ → List Column → Bool
@@ -67,7 +67,7 @@ module _ (s : List ℕ) (good : Accepts sheet s) where
             subst (λ (S : Sheet). t ≡ total-length S p) (width-sheet w good)
             (eqb→eq t (total-length S p) (and-right (judged S p y) (eqb t (total-length S p)) x));
       })
-  shown-is w (mark y) x = none (subst NoDrawing (width-sheet w good) (no-drawing (sheet-of (with-width w s)) y x))
+  shown-is w (undrawable y) x = none (subst NoDrawing (width-sheet w good) (no-drawing (sheet-of (with-width w s)) y x))
 
   -- and so has each of them, at its index
   shown-at : (cs : List Column) → T (all (λ (c : Column). passes s (c .width) (c .shown)) cs) → (i : ℕ) → i < length (widths-of cs)
