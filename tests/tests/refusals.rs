@@ -47,6 +47,15 @@ fn numbers(input: &str) -> Option<Vec<u16>> {
     input.split(", ").map(|text| text.parse().ok()).collect()
 }
 
+/// The widths of an example: numbers, or one number and how many times it stands in the list.
+fn widths(list: &str) -> Option<Vec<u32>> {
+    if let Some((width, times)) = list.split_once(" (") {
+        let times = number(times.strip_suffix(" times)")?)?;
+        return Some(vec![width.parse().ok()?; times]);
+    }
+    list.split(", ").map(|text| text.parse().ok()).collect()
+}
+
 /// The call of an example, with its slices; `narrowest` has none.
 fn call(name: &str, input: &str, slices: &str) -> Option<Call> {
     let room = |unit| number(slices.strip_prefix("a slice of ")?.strip_suffix(unit)?);
@@ -67,6 +76,16 @@ fn call(name: &str, input: &str, slices: &str) -> Option<Call> {
             let bytes = bytes(input)?;
             Some(Call::Narrowest { bytes })
         }
+        "totals" => {
+            let (sheet, list) = input.split_once(" at ")?;
+            let (bytes, widths) = (bytes(sheet)?, widths(list)?);
+            let room = room(" totals")?;
+            Some(Call::Totals {
+                bytes,
+                widths,
+                room,
+            })
+        }
         "draw" => {
             let lengths = slices.strip_prefix("slices of ")?;
             let (places, list) = lengths
@@ -85,7 +104,7 @@ fn call(name: &str, input: &str, slices: &str) -> Option<Call> {
 }
 
 /// What an example says: "`CALL` of INPUT with SLICES: refused NUMBER at OFFSET.", or the same without
-/// slices; INPUT is bytes or a number list.
+/// slices; INPUT is bytes or a number list, or for `totals` BYTES at WIDTHS.
 fn example(text: &str) -> (Call, Refusal) {
     let read = || {
         let (name, rest) = text.strip_prefix('`')?.split_once("` of ")?;
@@ -109,8 +128,8 @@ fn only_example(section: &str) -> (Call, Refusal) {
     }
 }
 
-/// The examples of a section with coordinate files and their number lists.
-fn file_examples(section: &str) -> Vec<(Call, Refusal)> {
+/// The examples of a section with coordinate files, their number lists and lists of widths.
+fn other_examples(section: &str) -> Vec<(Call, Refusal)> {
     let lines = section.lines().filter_map(|line| line.strip_prefix("- "));
     let examples = lines.filter(|line| line.contains(": refused "));
     examples.map(example).collect()
@@ -127,7 +146,7 @@ fn each_refusal_of_the_header_has_one_section() {
 #[test]
 fn examples_are_refused_as_they_say() {
     for (number, section) in sections(&page()) {
-        let examples = file_examples(section).into_iter();
+        let examples = other_examples(section).into_iter();
         for (call, refusal) in examples.chain([only_example(section)]) {
             assert_eq!(refusal.number, number, "{section}");
             assert_eq!(
@@ -140,20 +159,23 @@ fn examples_are_refused_as_they_say() {
 }
 
 #[test]
-fn each_refusal_of_coordinate_files_has_examples() {
+fn each_refusal_of_coordinate_files_and_widths_has_examples() {
     let page = page();
     let sections = sections(&page);
     let with = |is: fn(&Call) -> bool| -> Vec<u32> {
         let sections = sections.iter().filter(|(_, section)| {
-            let examples = file_examples(section);
+            let mut examples = other_examples(section);
+            examples.push(only_example(section));
             examples.iter().any(|(call, _)| is(call))
         });
         sections.map(|&(number, _)| number).collect()
     };
     let read = with(|call| matches!(call, Call::ReadDrawing { .. }));
     let written = with(|call| matches!(call, Call::WriteDrawing { .. }));
+    let told = with(|call| matches!(call, Call::Totals { .. }));
     assert_eq!(read, [1, 2, 3, 4, 6, 7]);
     assert_eq!(written, [1, 4, 6, 7]);
+    assert_eq!(told, [4, 7, 11]);
 }
 
 #[test]
@@ -162,14 +184,13 @@ fn examples_are_those_of_document_01() {
     let examples = sections(&page)
         .into_iter()
         .map(|(_, section)| match only_example(section).0 {
-            Call::Read { bytes, .. } | Call::Draw { bytes, .. } | Call::Narrowest { bytes } => {
-                bytes
-            }
+            Call::Read { bytes, .. } | Call::Draw { bytes, .. } => bytes,
+            Call::Narrowest { bytes } | Call::Totals { bytes, .. } => bytes,
             call => panic!("{call:?}"),
         });
     let crossing = crossing().bytes();
     let document = REFUSED.iter().map(|&(_, bytes)| bytes);
-    let document = document.chain([&ONE_NODE[..], &NO_DRAWING[..], &crossing]);
+    let document = document.chain([&ONE_NODE[..], &NO_DRAWING[..], &crossing, &ONE_NODE[..]]);
     assert!(examples.eq(document));
 }
 

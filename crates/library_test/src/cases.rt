@@ -6,6 +6,7 @@ use crate::hex;
 use crate::narrowest::narrowest_case;
 use crate::show;
 use crate::smaller;
+use crate::widths::widths_case;
 use sheet::limits::MAX_BYTES;
 use sheet::limits::MAX_NUMBERS;
 
@@ -156,6 +157,7 @@ fn operation(letter: u8, room: usize, at: usize, payload: &[u8]) -> bool {
         b'C' => check_case(room, at, payload),
         b'D' => draw_case(room, at, payload),
         b'N' => narrowest_case(payload),
+        b'T' => widths_case(room, at, payload),
         _ => false,
     }
 }

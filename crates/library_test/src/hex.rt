@@ -79,6 +79,19 @@ pub fn numbers(text: &[u8], numbers: &mut [u16]) -> usize
     count
 }
 
+// Puts the long numbers of the text, eight digits each, at the start of the slice, and answers how many.
+pub fn long_numbers(text: &[u8], numbers: &mut [u32]) -> usize
+    ensures { λ r. ⌜ r ≤ length (now (numbers .exit)) ⌝ }
+{
+    let count = smaller(text.len() / 8, numbers.len());
+    let mut i: usize = 0;
+    while i < count {
+        numbers[i] = long(text, 8 * i);
+        i += 1;
+    }
+    count
+}
+
 // Puts the signed numbers of the text, eight digits each, at the start of the slice, and answers how many.
 pub fn signed_numbers(text: &[u8], numbers: &mut [i32]) -> usize
     ensures { λ r. ⌜ r ≤ length (now (numbers .exit)) ⌝ }

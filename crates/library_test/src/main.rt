@@ -6,6 +6,7 @@ mod hex;
 mod input;
 mod narrowest;
 mod show;
+mod widths;
 
 use cases::case;
 use input::read_line;

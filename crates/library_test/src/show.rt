@@ -128,6 +128,21 @@ pub fn numbers(numbers: &[u16]) {
     }
 }
 
+// Prints a number of 32 bits behind a space.
+fn long_number(n: u32) {
+    text(b" ");
+    io::print_hex(STDOUT_FILENO, n as u64, 8);
+}
+
+// Prints the long numbers of a slice.
+pub fn long_numbers(numbers: &[u32]) {
+    let mut i: usize = 0;
+    while i < numbers.len() {
+        long_number(numbers[i]);
+        i += 1;
+    }
+}
+
 // The magnitude of a signed number.
 fn magnitude(n: i32) -> u64 {
     if n < 0 { (-1 - n) as u64 + 1 } else { n as u64 }

@@ -5,6 +5,6 @@ use Prim.Native.Nat.{ℕ}
 abbrev pub max-widths : ℕ
 max-widths = 64
 
--- the mark: the entry of a width without a drawing
+-- the entry of a width without a drawing
 abbrev pub no-total : ℕ
 no-total = 4294967295

@@ -8,6 +8,6 @@ use Rattle.engine.specs.Refusals.{no-drawing}
 use Rattle.engine.specs.Draws.{Drawn}
 use Rattle.rolls.specs.Limits.{no-total}
 
--- the entry is its total, and the mark stands for refusal 8
+-- the entry is its total, and `no-total` stands for refusal 8
 unfoldable pub single-answer : ℕ → Drawn
 single-answer entry = cond (eqb entry no-total) (Reply.refused (refusal no-drawing 0)) (Reply.value entry)

@@ -18,7 +18,7 @@ use Rattle.drawing.specs.Widths.{TotalAt}
 use Rattle.rolls.specs.Limits.{max-widths, no-total}
 use Rattle.rolls.specs.Refusals.{many-widths}
 
--- the entry of a width: the least total at it, or the mark if the sheet has no drawing there
+-- the entry of a width: the least total at it, or `no-total` if the sheet has no drawing there
 pub data Entry (S : Sheet) (width : ℕ) : ℕ → Type 0 where
   drawn : {total : ℕ} → TotalAt S width total → Entry S width total
   none : NoDrawing (at-width width S) → Entry S width no-total

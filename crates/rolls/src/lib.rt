@@ -24,7 +24,7 @@ ghost use Rattle.arcs.specs.Held.{Holds};
 ghost use Rattle.rolls.specs.Totals.{«first-outside», «widths-answer», «totals-answer», Written};
 ghost use Rattle.rolls.specs.inside.Held.{WrittenHeld};
 
-// Writes the total of a sheet at each of at most 64 widths, or the mark for a width without a drawing, into the front of the totals; or
+// Writes the total of a sheet at each of at most 64 widths, or NO_TOTAL for a width without a drawing, into the front of the totals; or
 // answers the refusal. The sheet is read once, and its own width plays no part.
 pub fn totals(bytes: &[u8], widths: &[u32], totals: &mut [u32]) -> Answer
     ensures answer { λ r. ⌜ outcome r ≡ totals-answer (read-sheet (now (bytes .entry))) (now (widths .entry))

@@ -62,7 +62,8 @@ pub extern "C" fn strip_narrowest(bytes: &[u8]) -> u64
     minimum_word(engine::minimum_width(bytes))
 }
 
-// Writes the total of a sheet at each of at most 64 widths, or the mark for a width without a drawing, into the front of the totals.
+// Writes the total of a sheet at each of at most 64 widths, or 4,294,967,295 for a width without a drawing, into the front of the
+// totals.
 #[no_mangle]
 pub extern "C" fn strip_totals(bytes: &[u8], widths: &[u32], totals: &mut [u32]) -> u64
     ensures answer { λ r. ⌜ r ≡ outcome-word (totals-answer (read-sheet (now (bytes .entry))) (now (widths .entry))

@@ -1,4 +1,4 @@
--- The contract leaves nothing open: a width has one entry, so the lent slice is one; no total is the mark; and the sheet's own width
+-- The contract leaves nothing open: a width has one entry, so the lent slice is one; every total is below `no-total`; and the sheet's own width
 -- plays no part.
 use Prim.Native.Nat.{ℕ, _+_, _-_, _≤_, _<_}
 use mathlib.Core.Path.{_≡_, refl, sym, _∙_, ap, subst}
@@ -58,9 +58,9 @@ totals-determined (elements numbers) ws old p q g h = go (widths-answer ws (leng
     go (Outcome.refused r) g h = g ∙ sym h
 totals-determined (Result.refused r) ws old p q g h = g ∙ sym h
 
--- a total of a good sheet is never the mark
-pub total-not-mark : (s : List ℕ) → Accepts sheet s → (w t : ℕ) → w ≤ max-width → TotalAt (sheet-of s) w t → t < no-total
-total-not-mark s good w t l a =
+-- a total of a good sheet is never `no-total`
+pub below-no-total : (s : List ℕ) → Accepts sheet s → (w t : ℕ) → w ≤ max-width → TotalAt (sheet-of s) w t → t < no-total
+below-no-total s good w t l a =
     let proper : Proper (at-width w (sheet-of s)) = subst Proper (width-sheet w good) (accepts-proper _ (width-accepts w l good)) in
     omega (arith, a .total-is, total-most _ (a .places) proper (a .least .candidate))
 

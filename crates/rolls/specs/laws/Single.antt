@@ -1,5 +1,5 @@
 -- Each entry equals the single call's: drawing the sheet with that width, with slices that are long enough, gives the entry as its
--- total, or refusal 8 if the entry is the mark.
+-- total, or refusal 8 if the entry is `no-total`.
 use Prim.Native.Nat.{ℕ, _≤_, _<_}
 use mathlib.Core.Path.{_≡_, refl, sym, _∙_, ap, subst}
 use mathlib.Core.Bool.{Bool, cond}
@@ -32,23 +32,23 @@ use Rattle.rolls.specs.Totals.{Entry, Entries, Leaves, widths-answer, to
 use Rattle.rolls.specs.Totals.Entry.{drawn, none}
 use Rattle.rolls.specs.Single.{single-answer}
 use Rattle.rolls.specs.laws.Answers.{wrote-within}
-use Rattle.rolls.specs.laws.Entries.{total-not-mark}
+use Rattle.rolls.specs.laws.Entries.{below-no-total}
 
 -- a total is answered as itself
 single-total : (t : ℕ) → t < no-total → single-answer t ≡ Reply.value t
 unfolding single-answer
 single-total t l = rw (ne-eqb t no-total (λ e. omega arith)) refl
 
--- the mark as refusal 8
-single-mark : single-answer no-total ≡ Reply.refused (refusal no-drawing 0)
+-- `no-total` as refusal 8
+single-none : single-answer no-total ≡ Reply.refused (refusal no-drawing 0)
 unfolding single-answer
-single-mark = refl
+single-none = refl
 
 module _ (s : List ℕ) (good : Accepts sheet s) (w : ℕ) (l : w ≤ max-width) where
   -- what is said of a width by its entry is what drawing answers there
   entry-answer : {t : ℕ} → Entry (sheet-of s) w t → (d : Drawn) → TotalsAt (sheet-of s) w d → d ≡ single-answer t
-  entry-answer (drawn {total} a) d k = total-drawn (sheet-of s) a d k ∙ sym (single-total total (total-not-mark s good w total l a))
-  entry-answer (none n) d k = none-drawn (sheet-of s) n d k ∙ sym single-mark
+  entry-answer (drawn {total} a) d k = total-drawn (sheet-of s) a d k ∙ sym (single-total total (below-no-total s good w total l a))
+  entry-answer (none n) d k = none-drawn (sheet-of s) n d k ∙ sym single-none
 
   module _ (p₀ : List ℕ) (y₀ : List ℤ) (p : List ℕ) (y : List ℤ) (room : Room (sheet-of s) (length p₀) (length y₀)) (t : ℕ)
       (e : Entry (sheet-of s) w t) (d : Drawn) where
