@@ -378,7 +378,8 @@ fn the_page_tells_how_many_faults_there_are() {
         format!("the reader breaks {reader} rules, one at a time, and the writer {writer} "),
         format!("go by traces that are wrong in {} ways ", WAYS.len()),
         format!("layer by layer with {} mistakes ", MISTAKES.len()),
-        format!("totals at many widths have {} flaws ", FLAWS.len()),
+        format!("The totals at many widths have {} flaws ", FLAWS.len()),
+        format!("are added with each of the {} mistakes.", MISTAKES.len()),
         format!("Each of the {} faults is found.", faults().len()),
     ] {
         page::check_said(&sentence);
