@@ -60,12 +60,20 @@ def narrowest(sheet):
     return f"{found.width} {found.total}"
 
 
+def totals(room, widths, sheet):
+    """The total at each width, or what stands for none."""
+    found = strip.totals(octets(sheet), elements(widths))
+    need(len(found), room)
+    return listed(strip.NO_TOTAL if total is None else total for total in found)
+
+
 CALLS = {
     "read": read,
     "write": write,
     "draw": draw,
     "check": check,
     "narrowest": narrowest,
+    "totals": totals,
     "read_drawing": lambda room, file: read(room, file, strip.read_drawing),
     "write_drawing": lambda room, numbers: write(room, numbers, strip.write_drawing),
 }

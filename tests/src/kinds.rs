@@ -8,7 +8,10 @@ mod plans;
 mod refused;
 
 use crate::draft::Draft;
-use second::sheet::NODE_LIMIT;
+use second::drawing::Sheet;
+use second::minimum_width::least_width;
+use second::sheet::{NODE_LIMIT, WIDTH_LIMIT};
+use second::totals::WIDTHS_LIMIT;
 
 pub use panels::panels;
 pub use refused::{bad, undrawn};
@@ -41,4 +44,12 @@ pub fn with_nodes(nodes: u16) -> Kind {
         name: format!("{nodes} nodes"),
         sheets: CHAINED.into_iter().flat_map(sheets).collect(),
     }
+}
+
+/// The widths at which the totals of a sheet are timed: 64 from the minimum width to the greatest, about
+/// equally far apart. The sheet must have a drawing at the greatest width.
+pub fn widths(sheet: &Sheet) -> Vec<u32> {
+    let minimum = least_width(sheet).map(u32::from).expect("a minimum width");
+    let (room, steps) = (u32::from(WIDTH_LIMIT) - minimum, WIDTHS_LIMIT as u32 - 1);
+    (0..=steps).map(|i| minimum + room * i / steps).collect()
 }

@@ -1,5 +1,6 @@
 //! The comparison itself: it finds each fault that a library is given, and none where there is none.
 
+mod flaws;
 mod rules;
 mod sums;
 mod wrong;
@@ -7,6 +8,7 @@ mod wrong;
 use std::panic::{catch_unwind, AssertUnwindSafe};
 
 use compare::{page, sheet, Library};
+use flaws::{totals_by, Flaw, Flawed, FLAWS};
 use rules::{Broken, Rule, READER, WRITER};
 use second::certificate;
 use second::checker;
@@ -68,6 +70,12 @@ enum Fault {
     CheckSum(Mistake),
     /// The total in the minimum width is added with a mistake.
     NarrowestSum(Mistake),
+    /// The totals at many widths have a flaw.
+    Totals(Flaw),
+    /// The totals at many widths go by wrong traces.
+    TotalsTraces(Wrong),
+    /// The totals at many widths are added with a mistake.
+    TotalsSum(Mistake),
     /// The reader of coordinate files breaks a rule.
     ReadFile(Rule),
     /// The writer of coordinate files breaks a rule.
@@ -113,6 +121,9 @@ fn faults() -> Vec<Fault> {
     faults.extend(MISTAKES.map(Fault::DrawSum));
     faults.extend(MISTAKES.map(Fault::CheckSum));
     faults.extend(MISTAKES.map(Fault::NarrowestSum));
+    faults.extend(FLAWS.map(Fault::Totals));
+    faults.push(Fault::TotalsTraces(Wrong::EveryEdge));
+    faults.extend(MISTAKES.map(Fault::TotalsSum));
     faults.extend(READER.map(Fault::ReadFile));
     faults.extend(WRITER.map(Fault::WriteFile));
     faults
@@ -237,13 +248,14 @@ impl Library for Faulty {
                 total: total_of(&own(sheet)).unwrap_or(minimum.total),
                 ..minimum
             }),
-            (Fault::NarrowestSum(mistake), Ok(minimum)) => Ok(Minimum {
-                total: mistake.least_total(&Sheet {
-                    width: minimum.width,
+            (Fault::NarrowestSum(mistake), Ok(Minimum { width, .. })) => {
+                let sheet = Sheet {
+                    width,
                     ..own(sheet)
-                }),
-                ..minimum
-            }),
+                };
+                let total = mistake.least_total(&sheet).expect("the width is enough");
+                Ok(Minimum { width, total })
+            }
             (Fault::NarrowestNumber, Err(Refusal { number: 10, .. })) => {
                 Err(Refusal::new(NO_DRAWING, 0))
             }
@@ -251,6 +263,19 @@ impl Library for Faulty {
                 Err(Refusal::new(NO_WIDTH, sheet.len()))
             }
             _ => answer,
+        }
+    }
+
+    fn totals(&self, sheet: &[u8], widths: &[u32], totals: &mut [u32]) -> Result<usize, Refusal> {
+        match self.0 {
+            Fault::Totals(flaw) => Flawed(Some(flaw)).totals(sheet, widths, totals),
+            Fault::TotalsTraces(wrong) => totals_by(sheet, widths, totals, |sheet| {
+                Traces(Some(wrong)).least_total(sheet)
+            }),
+            Fault::TotalsSum(mistake) => {
+                totals_by(sheet, widths, totals, |sheet| mistake.least_total(sheet))
+            }
+            _ => Flawed(None).totals(sheet, widths, totals),
         }
     }
 
@@ -353,6 +378,7 @@ fn the_page_tells_how_many_faults_there_are() {
         format!("the reader breaks {reader} rules, one at a time, and the writer {writer} "),
         format!("go by traces that are wrong in {} ways ", WAYS.len()),
         format!("layer by layer with {} mistakes ", MISTAKES.len()),
+        format!("totals at many widths have {} flaws ", FLAWS.len()),
         format!("Each of the {} faults is found.", faults().len()),
     ] {
         page::check_said(&sentence);

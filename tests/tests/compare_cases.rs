@@ -2,7 +2,7 @@
 
 use compare::{grouped, page, Proved};
 use strip_tests::cases::{
-    check, coordinates, draw, format, narrowest, others, stored, Group, Line,
+    check, coordinates, draw, format, narrowest, others, stored, totals, Group, Line,
 };
 
 /// How often a case is taken or gets a yes, gets a no, and is refused.
@@ -10,7 +10,7 @@ use strip_tests::cases::{
 struct Answers {
     taken: usize,
     no: usize,
-    refused: [usize; 11],
+    refused: [usize; 12],
 }
 
 impl Answers {
@@ -41,7 +41,7 @@ fn stored_cases() {
     let answers = Answers::of("stored cases", &stored());
     assert!(answers.taken > 50 && answers.no > 20);
     assert!((1..=8)
-        .chain([10])
+        .chain([10, 11])
         .all(|number| answers.refused[number] > 0));
 }
 
@@ -71,6 +71,24 @@ fn widths_and_extremes_narrowed() {
     let answers = Answers::of("cases of the minimum width", &narrowest::others());
     assert!(answers.taken > 70);
     for (number, least) in [(1, 4), (3, 5), (4, 4), (5, 1), (10, 9)] {
+        assert!(answers.refused[number] >= least, "refused {number}");
+    }
+}
+
+#[test]
+fn lists_and_widths_at_their_limits() {
+    let answers = Answers::of("cases of totals at many widths", &totals::others());
+    assert!(answers.taken > 70);
+    for (number, least) in [
+        (1, 8),
+        (2, 3),
+        (3, 7),
+        (4, 40),
+        (5, 3),
+        (6, 3),
+        (7, 9),
+        (11, 10),
+    ] {
         assert!(answers.refused[number] >= least, "refused {number}");
     }
 }

@@ -4,7 +4,7 @@ use second::drawing::Sheet;
 use second::minimum_width::least_width;
 use second::solver::solve;
 use strip_tests::draft::Draft;
-use strip_tests::kinds::{bad, full, panels, undrawn, with_nodes};
+use strip_tests::kinds::{bad, full, panels, undrawn, widths, with_nodes};
 
 /// The counts of nodes and edges of a sheet.
 fn sizes(draft: &Draft) -> (usize, usize) {
@@ -59,6 +59,21 @@ fn smaller_sheets_have_their_sizes_and_a_drawing() {
     let panels = panels().sheets;
     assert_eq!(panels.len(), 24);
     assert!(panels.iter().all(|draft| solve(&draft.sheet()).is_some()));
+}
+
+#[test]
+fn widths_are_64_different_ones_from_the_minimum_on() {
+    let mut kinds = full();
+    kinds.extend([128, 64, 32, 16].map(with_nodes));
+    kinds.push(panels());
+    for draft in kinds.iter().flat_map(|kind| &kind.sheets) {
+        let sheet = draft.sheet();
+        let widths = widths(&sheet);
+        let ends = (widths[0], widths[63], widths.len());
+        let minimum = least_width(&sheet).expect("a minimum width");
+        assert_eq!(ends, (minimum.into(), 4095, 64));
+        assert!(widths.windows(2).all(|pair| pair[0] < pair[1]));
+    }
 }
 
 #[test]

@@ -85,8 +85,11 @@ fn other_totals_places_lists_and_words_are_no_answers() {
 fn stored_files_can_be_read() {
     for file in [file("stdin"), file("stdout")] {
         assert!(file.is_ascii());
-        assert!(file.lines().count() < 480, "{}", file.lines().count());
-        assert!(file.lines().all(|line| line.len() < 320));
+        assert!(file.lines().count() < 530, "{}", file.lines().count());
+        assert!(file.lines().all(|line| line.len() < 600));
+        // 64 widths, their totals, and 65 widths
+        let long = file.lines().filter(|line| line.len() >= 320);
+        assert!(long.count() <= 2);
     }
 }
 
@@ -111,6 +114,7 @@ fn payloads_are_whole_elements() {
             "W" | "S" => (0, 4),
             "P" => (0, 8),
             "C" => (4 * hexadecimal(&first) + 8 * hexadecimal(&second), 2),
+            "T" => (8 * hexadecimal(&second), 2),
             _ => panic!("no such operation: {operation}"),
         };
         assert!(payload.len() >= before, "{payload}");
@@ -127,7 +131,7 @@ fn each_refusal_and_each_word_is_stored() {
             .filter(|line| line.starts_with(answer))
             .count()
     };
-    let numbers = (1..=8).chain([10]);
+    let numbers = (1..=8).chain([10, 11]);
     let refused = numbers.map(|number| count(&format!("refused {number} at ")));
     let refused: Vec<usize> = refused.collect();
     assert!(refused.iter().all(|&count| count > 0), "{refused:?}");

@@ -1,14 +1,16 @@
-//! The vectors find the faults that the comparison finds: wrong traces, totals added with a mistake, broken
-//! rules of coordinate files; and a checker with too few bits. Each gives a wrong answer in the file of the
+//! The vectors find the faults that the comparison finds: wrong traces, totals added with a mistake, flaws of
+//! totals at many widths, broken rules of coordinate files; and a checker with too few bits. Each gives a wrong answer in the file of the
 //! call that has the fault.
 
 mod asked;
+mod flaws;
 mod rules;
 mod sums;
 mod wrong;
 
 use asked::{answered, cases, stored};
 use compare::Library;
+use flaws::{totals_by, Flaw, Flawed, FLAWS};
 use rules::{Broken, Rule, READER, WRITER};
 use second::certificate::{floor, meets_rules};
 use second::drawing::{is_drawing, total, Sheet};
@@ -40,6 +42,12 @@ impl Library for WrongTraces {
     fn narrowest(&self, sheet: &[u8]) -> Result<Minimum, Refusal> {
         self.traces().narrowest(sheet)
     }
+
+    fn totals(&self, sheet: &[u8], widths: &[u32], totals: &mut [u32]) -> Result<usize, Refusal> {
+        totals_by(sheet, widths, totals, |sheet| {
+            self.traces().least_total(sheet)
+        })
+    }
 }
 
 /// A library that adds totals with a mistake.
@@ -62,8 +70,21 @@ impl Library for WrongSums {
             width,
             ..Sheet::from_bytes(sheet)?
         };
-        let total = self.0.least_total(&sheet);
+        let total = self.0.least_total(&sheet).expect("the width is enough");
         Ok(Minimum { width, total })
+    }
+
+    fn totals(&self, sheet: &[u8], widths: &[u32], totals: &mut [u32]) -> Result<usize, Refusal> {
+        totals_by(sheet, widths, totals, |sheet| self.0.least_total(sheet))
+    }
+}
+
+/// A library whose totals at many widths have a flaw.
+struct WrongTotals(Flaw);
+
+impl Library for WrongTotals {
+    fn totals(&self, sheet: &[u8], widths: &[u32], totals: &mut [u32]) -> Result<usize, Refusal> {
+        Flawed(Some(self.0)).totals(sheet, widths, totals)
     }
 }
 
@@ -110,6 +131,7 @@ fn wrong_traces_are_found() {
         if way != Wrong::LastCarries {
             assert!(wrong_answers(&library, "draw") > 0, "{way:?}");
             assert!(wrong_answers(&library, "narrowest") > 0, "{way:?}");
+            assert!(wrong_answers(&library, "totals") > 0, "{way:?}");
         }
     }
 }
@@ -117,7 +139,7 @@ fn wrong_traces_are_found() {
 #[test]
 fn mistakes_of_totals_are_found() {
     for mistake in MISTAKES {
-        for call in ["draw", "check", "narrowest"] {
+        for call in ["draw", "check", "narrowest", "totals"] {
             let count = wrong_answers(&WrongSums(mistake), call);
             assert!(count > 0, "{call}: {mistake:?}");
         }
@@ -125,9 +147,19 @@ fn mistakes_of_totals_are_found() {
 }
 
 #[test]
+fn flaws_of_totals_at_many_widths_are_found() {
+    // an answer does not show what stands in a slice behind it, or after a refusal
+    let is_shown = |flaw: &&Flaw| ![Flaw::Behind, Flaw::OnRefusal].contains(flaw);
+    for &flaw in FLAWS.iter().filter(is_shown) {
+        let count = wrong_answers(&WrongTotals(flaw), "totals");
+        assert!(count > 0, "{flaw:?}");
+    }
+}
+
+#[test]
 fn broken_rules_of_coordinate_files_are_found() {
     for (call, rules) in [("read_drawing", &READER[..]), ("write_drawing", &WRITER)] {
-        // an answer does not show what stands in a slice behind it, or after a refusal
+        // as above
         let is_shown = |rule: &&Rule| ![Rule::Behind, Rule::OnRefusal].contains(rule);
         for &rule in rules.iter().filter(is_shown) {
             let count = wrong_answers(&WrongFiles(rule), call);

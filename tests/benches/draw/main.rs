@@ -1,7 +1,8 @@
 //! Times the library on kinds of sheets, in turn with a peer that solves the same networks.
 //!
 //! Run with the name of a kind of full size, it only draws each sheet of that kind once: valgrind counts
-//! the instructions of these calls. Run with `climb`, it looks for sheets that take long.
+//! the instructions of these calls. Run with `totals`, it prints the table of totals at many widths alone.
+//! Run with `climb`, it looks for sheets that take long.
 
 mod climb;
 mod clock;
@@ -21,10 +22,15 @@ use strip_tests::kinds::{bad, full, panels, undrawn, with_nodes, Kind};
 use strip_tests::random::Random;
 use table::{cells, print_head, print_row};
 
-/// Prints the tables or that of climbing, or draws the sheets of one kind. Cargo adds an argument of its own.
+/// Prints the tables, or that of totals or of climbing alone, or draws the sheets of one kind. Cargo adds an
+/// argument of its own.
 fn main() {
     match env::args().skip(1).find(|argument| argument != "--bench") {
         Some(name) if name == "climb" => print_climbed(),
+        Some(name) if name == "totals" => {
+            print_unit();
+            print_totals(&Clock::new(), &full(), &others());
+        }
         Some(name) => draw_each(&name),
         None => print_tables(),
     }
@@ -44,18 +50,29 @@ fn samples(kind: &Kind) -> Vec<Sample> {
     bytes.map(Sample::new).collect()
 }
 
-/// Prints the tables of drawing, of the other calls, and of refusals.
-fn print_tables() {
-    println!("microseconds of processor time, the least of {ROUNDS} rounds for each sheet");
-    let clock = Clock::new();
-    let full = full();
+/// The kinds of sheets with a drawing that are not of full size.
+fn others() -> Vec<Kind> {
     let mut others: Vec<Kind> = [128, 64, 32, 16].map(with_nodes).into();
     others.push(panels());
+    others
+}
+
+/// Prints what the tables have.
+fn print_unit() {
+    println!("microseconds of processor time, the least of {ROUNDS} rounds for each sheet");
+}
+
+/// Prints the tables of drawing, of the other calls, of totals, and of refusals.
+fn print_tables() {
+    print_unit();
+    let clock = Clock::new();
+    let (full, others) = (full(), others());
     print_drawn(&clock, &full, &others);
     print_head(&["read", "check", "narrowest"], "");
     for kind in full.iter().chain(&others) {
         print_calls(&clock, kind);
     }
+    print_totals(&clock, &full, &others);
     print_head(&["draw", "narrowest"], "");
     for kind in undrawn() {
         print_refused(&clock, &kind.name, samples(&kind));
@@ -141,6 +158,20 @@ fn print_calls(clock: &Clock, kind: &Kind) {
     let calls = [Sample::read, Sample::check, Sample::narrowest];
     let times = calls.map(|call| cells(&least(clock, &mut samples, call), 1));
     print_row(&kind.name, samples.len(), &times.concat());
+}
+
+/// Prints the table of totals at 64 different widths, beside one drawing.
+fn print_totals(clock: &Clock, full: &[Kind], others: &[Kind]) {
+    print_head(&["draw", "64 totals", "64 totals / draw"], "");
+    for kind in full.iter().chain(others) {
+        let mut samples = samples(kind);
+        samples.iter_mut().for_each(Sample::choose_widths);
+        let draw = least(clock, &mut samples, |sample| sample.draw().is_some());
+        let totals = least(clock, &mut samples, Sample::totals);
+        let ratios: Vec<f64> = totals.iter().zip(&draw).map(|(t, d)| t / d).collect();
+        let times = [cells(&draw, 1), cells(&totals, 0), cells(&ratios, 1)];
+        print_row(&kind.name, samples.len(), &times.concat());
+    }
 }
 
 /// Prints a row of refusals; the minimum width may be told.

@@ -3,13 +3,16 @@
 use std::hint::black_box;
 
 use second::drawing::Sheet;
+use strip_tests::kinds::widths;
 
-/// A sheet, with slices for its numbers, its drawing and its list.
+/// A sheet, with slices for its numbers, its drawing, its list and its totals at widths.
 pub struct Sample {
     pub bytes: Vec<u8>,
     numbers: Vec<u16>,
     places: Vec<u16>,
     list: Vec<i32>,
+    widths: Vec<u32>,
+    totals: Vec<u32>,
 }
 
 impl Sample {
@@ -20,7 +23,14 @@ impl Sample {
             numbers: vec![0; strip::MAX_NUMBERS],
             places: vec![0; strip::MAX_PLACES],
             list: vec![0; strip::MAX_LIST],
+            widths: Vec::new(),
+            totals: vec![0; strip::MAX_WIDTHS],
         }
+    }
+
+    /// Chooses the widths for totals; the sheet must be good and have a minimum width.
+    pub fn choose_widths(&mut self) {
+        self.widths = widths(&self.sheet());
     }
 
     /// The sheet in its parts; it must be good.
@@ -46,5 +56,11 @@ impl Sample {
     /// Tells the minimum width, and says whether there is one.
     pub fn narrowest(&mut self) -> bool {
         strip::narrowest(black_box(&self.bytes)).is_ok()
+    }
+
+    /// Tells the totals at the widths, and says whether the last one, at the greatest width, is there.
+    pub fn totals(&mut self) -> bool {
+        let answer = strip::totals(black_box(&self.bytes), &self.widths, &mut self.totals);
+        answer.is_ok_and(|count| self.totals[count - 1] != strip::NO_TOTAL)
     }
 }

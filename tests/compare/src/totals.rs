@@ -27,7 +27,7 @@ pub struct Entries {
 
 impl Entries {
     /// Counts the entries of a list.
-    fn count(&mut self, entries: &[u32]) {
+    pub fn count(&mut self, entries: &[u32]) {
         let without = entries.iter().filter(|&&entry| entry == NO_TOTAL).count();
         self.without += without;
         self.totals += entries.len() - without;
@@ -129,18 +129,17 @@ fn lists(random: &mut Random, own: u16, minimum: Option<u16>) -> Vec<Vec<u32>> {
     let (one, other) = (width(), width());
     let mut lists = vec![vec![], vec![one], vec![other, one]];
     if is_full {
-        let choice: Vec<u32> = (0..WIDTHS_LIMIT).map(|_| width()).collect();
-        lists.push(full_list(random, &choice));
+        let widths = (0..WIDTHS_LIMIT).map(|_| width()).collect();
+        lists.push(full_list(random, widths));
     }
     lists
 }
 
-/// 64 widths out of the first few of some, or of all of them: as they come, or falling.
-fn full_list(random: &mut Random, choice: &[u32]) -> Vec<u32> {
-    let first = [3, 10, choice.len()][random.index(3)];
-    let mut list: Vec<u32> = (0..WIDTHS_LIMIT)
-        .map(|_| choice[random.index(first)])
-        .collect();
+/// 64 widths, all of those given or the first few again and again: as they come, or falling.
+fn full_list(random: &mut Random, widths: Vec<u32>) -> Vec<u32> {
+    let different = [3, 10, WIDTHS_LIMIT][random.index(3)];
+    let again = widths[..different].iter().copied().cycle();
+    let mut list: Vec<u32> = again.take(WIDTHS_LIMIT).collect();
     if random.once_in(2) {
         list.sort_by(|one, other| other.cmp(one));
     }

@@ -1,8 +1,9 @@
-//! Calls with slices that are long enough for every sheet and every coordinate file.
+//! Calls with slices that are long enough for every sheet, list of widths and coordinate file.
 
 use crate::cases::Call;
 use second::coordinates;
 use second::sheet::NUMBER_LIMIT;
+use second::totals::WIDTHS_LIMIT;
 
 use super::Vector;
 
@@ -54,6 +55,15 @@ pub fn check(bytes: &[u8], places: &[u16], list: &[i32]) -> Call {
 pub fn narrow(bytes: &[u8]) -> Call {
     let bytes = bytes.to_vec();
     Call::Narrowest { bytes }
+}
+
+/// Asks for the totals of a sheet at widths, in a slice that is long enough for every list.
+pub fn totals(bytes: &[u8], widths: &[u32]) -> Call {
+    Call::Totals {
+        bytes: bytes.to_vec(),
+        widths: widths.to_vec(),
+        room: WIDTHS_LIMIT,
+    }
 }
 
 /// Reads a coordinate file into a slice that is long enough for every file.

@@ -2,13 +2,15 @@
 
 use crate::cases::Call;
 use crate::document::{
-    first, one_over_three, sheets, traced, FIRST_LIST, NO_DRAWING, ONE_NODE, REFUSED,
+    crossing, first, one_over_three, sheets, stair, traced, FIRST_LIST, NO_DRAWING, ONE_NODE,
+    REFUSED,
 };
 use crate::files::{GOOD, REFUSED as REFUSED_FILES};
 use crate::traps::traps;
 use second::certificate;
+use second::sheet::{PLAIN, STRAIGHT};
 
-use super::calls::{check, draw, narrow, noted, read, read_file, write, write_file};
+use super::calls::{check, draw, narrow, noted, read, read_file, totals, write, write_file};
 use super::Vector;
 
 /// The examples, in the documents' order.
@@ -20,6 +22,7 @@ pub fn examples() -> Vec<Vector> {
     vectors.extend(widths());
     vectors.extend(narrowest());
     vectors.extend(files());
+    vectors.extend(many_widths());
     vectors
 }
 
@@ -28,7 +31,7 @@ fn refusals() -> Vec<Vector> {
     let mut calls = Vec::new();
     for (_, bytes) in REFUSED {
         calls.extend([read(bytes), draw(bytes), narrow(bytes)]);
-        calls.push(check(bytes, &[], &[]));
+        calls.extend([check(bytes, &[], &[]), totals(bytes, &[5])]);
     }
     calls.push(Call::Draw {
         bytes: ONE_NODE.to_vec(),
@@ -122,5 +125,30 @@ fn files() -> Vec<Vector> {
     let note = "document 02, ticket 3, a place that is not right of its left neighbour";
     let calls = [5, 4, 0].map(|place| write_file(&[1, 2, 5, place]));
     vectors.extend(noted(note, calls));
+    vectors
+}
+
+/// Sheets of document 01 at many widths, and lists of widths that are refused.
+fn many_widths() -> Vec<Vector> {
+    let note = |name| format!("document 02, ticket 6, {name}");
+    let widths = [0, 1, 2, 3, 4];
+    let mut vectors = noted(&note("stair"), [totals(&stair(2, PLAIN).bytes(), &widths)]);
+    for (name, draft, widths) in [
+        (
+            "stair, second edge straight",
+            stair(2, STRAIGHT),
+            &widths[..],
+        ),
+        ("crossing straight edges", crossing(), &[0, 1, 4095]),
+        ("first sheet", first(), &[5, 0]),
+    ] {
+        vectors.extend(noted(&note(name), [totals(&draft.bytes(), widths)]));
+    }
+    let empty = [totals(&ONE_NODE, &[]), totals(&ONE_NODE[..6], &[])];
+    vectors.extend(noted(&note("a list without entries"), empty));
+    let outside = [4096, 65_541, u32::MAX].map(|width| totals(&ONE_NODE, &[0, 4095, width]));
+    vectors.extend(noted(&note("a width outside its limits"), outside));
+    let many = [64, 65].map(|count| totals(&ONE_NODE, &vec![0; count]));
+    vectors.extend(noted(&note("64 and 65 widths"), many));
     vectors
 }

@@ -1,4 +1,5 @@
-//! Sheets of the families: drawn and narrowed, and lists checked that show their totals or nearly do.
+//! Sheets of the families: drawn, narrowed and drawn at other widths, and lists checked that show their
+//! totals or nearly do.
 
 use crate::cases::Call;
 use crate::draft::Draft;
@@ -13,9 +14,10 @@ use crate::mutation::{around_layers, around_pairs, circulate, moved_pull, parall
 use crate::random::Random;
 use second::drawing::Sheet;
 use second::minimum_width::least_width;
+use second::sheet::WIDTH_LIMIT;
 use second::solver::solve;
 
-use super::calls::{check, draw, narrow, noted};
+use super::calls::{check, draw, narrow, noted, totals};
 use super::Vector;
 
 /// Sheets of which medium and realistic ones have no more bytes.
@@ -158,6 +160,7 @@ fn beside(sheets: &[Draft]) -> Vec<Draft> {
 fn asked(random: &mut Random, draft: &Draft, misses: usize) -> Vec<Call> {
     let (bytes, sheet) = (draft.bytes(), draft.sheet());
     let mut calls = vec![draw(&bytes), narrow(&bytes)];
+    calls.push(totals(&bytes, &widths(draft)));
     if let Some(found) = solve(&sheet) {
         calls.push(check(&bytes, &found.places, &found.list));
         for _ in 0..misses {
@@ -166,6 +169,20 @@ fn asked(random: &mut Random, draft: &Draft, misses: usize) -> Vec<Call> {
         }
     }
     calls
+}
+
+/// Widths around the minimum, falling, with the sheet's own and the greatest in front.
+fn widths(draft: &Draft) -> Vec<u32> {
+    let mut widths = vec![draft.width, WIDTH_LIMIT];
+    match least_width(&draft.sheet()) {
+        Some(least) => {
+            let steps = [40, 3, 2, 1, 0].map(|step| (least + step).min(WIDTH_LIMIT));
+            widths.extend(steps);
+            widths.extend(least.checked_sub(1));
+        }
+        None => widths.push(0),
+    }
+    widths.into_iter().map(u32::from).collect()
 }
 
 /// Places and a list near those of a drawing: one step, one number, or one cycle away.

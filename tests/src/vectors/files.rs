@@ -9,7 +9,7 @@ use crate::mutation::near_list;
 use crate::random::Random;
 use second::solver::solve;
 
-use super::calls::{draw, narrow, noted, read, read_file, write, write_file};
+use super::calls::{draw, narrow, noted, read, read_file, totals, write, write_file};
 use super::Vector;
 
 /// Sheets and files at random have no more bytes.
@@ -52,7 +52,7 @@ fn short_sheet(random: &mut Random) -> Draft {
     }
 }
 
-/// Damaged sheets: all are read, and some are drawn and narrowed.
+/// Damaged sheets: all are read, and some are drawn, narrowed and drawn at other widths.
 fn damaged_sheets(random: &mut Random) -> Vec<Vector> {
     let mut vectors = Vec::new();
     for (name, damage) in DAMAGES {
@@ -66,6 +66,7 @@ fn damaged_sheets(random: &mut Random) -> Vec<Vector> {
             calls.push(read(&damaged));
             if i == 0 {
                 calls.extend([draw(&damaged), narrow(&damaged)]);
+                calls.push(totals(&damaged, &[9, 20]));
             }
         }
         vectors.extend(noted(&format!("damaged sheets: {name}"), calls));

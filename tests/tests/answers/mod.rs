@@ -1,11 +1,11 @@
-//! What readers and writers answer, counted.
+//! What calls that fill a slice answer, counted.
 
 use compare::{grouped, page, read_into, write_into, Format, Library};
 use second::refusal::Refusal;
 
 /// Counts of answers by the number of the refusal; 0 is none.
 #[derive(Default)]
-pub struct Answers([usize; 9]);
+pub struct Answers([usize; 12]);
 
 impl Answers {
     /// Counts one more answer.
@@ -15,6 +15,7 @@ impl Answers {
     }
 
     /// Compares reading and writing with slices of every length up to two elements too many.
+    #[allow(dead_code)] // not every test file has a format
     pub fn count_lengths(
         &mut self,
         library: &impl Library,

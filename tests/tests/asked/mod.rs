@@ -112,6 +112,10 @@ pub fn answered(library: &impl Library, question: &str) -> String {
         ["narrowest", sheet] => library
             .narrowest(&bytes(sheet))
             .map(|found| format!("{} {}", found.width, found.total)),
+        ["totals", room, widths, sheet] => {
+            let totals = |slice: &mut [u32]| library.totals(&bytes(sheet), &numbers(widths), slice);
+            filled(room, totals).map(|found| listed(&found))
+        }
         ["read_drawing", room, file] => {
             let found = filled(room, |slice| library.read_drawing(&bytes(file), slice));
             found.map(|found| listed(&found))

@@ -87,9 +87,9 @@ impl Mistake {
             && floor(sheet, list) == self.total(sheet, places).into()
     }
 
-    /// The total that is told with this mistake of a sheet that has a drawing.
-    pub fn least_total(self, sheet: &Sheet) -> u32 {
-        let solution = solve(sheet).expect("a drawing");
-        self.total(sheet, &solution.places)
+    /// The total that is told with this mistake of a sheet, if it has a drawing.
+    pub fn least_total(self, sheet: &Sheet) -> Option<u32> {
+        let solution = solve(sheet)?;
+        Some(self.total(sheet, &solution.places))
     }
 }

@@ -149,10 +149,15 @@ impl Traces {
             width,
             ..Sheet::from_bytes(bytes)?
         };
-        let Some((_, places)) = self.solve(&sheet) else {
-            return Err(Refusal::new(NO_DRAWING, 0));
-        };
-        let total = self.taken(&sheet).total(&sheet, &places);
-        Ok(Minimum { width, total })
+        match self.least_total(&sheet) {
+            Some(total) => Ok(Minimum { width, total }),
+            None => Err(Refusal::new(NO_DRAWING, 0)),
+        }
+    }
+
+    /// The least total that is told of a sheet, if any.
+    pub fn least_total(&self, sheet: &Sheet) -> Option<u32> {
+        let (_, places) = self.solve(sheet)?;
+        Some(self.taken(sheet).total(sheet, &places))
     }
 }
