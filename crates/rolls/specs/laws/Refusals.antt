@@ -1,6 +1,6 @@
 -- The call for many widths refuses with 1 to 7 and 11 only: as reading does, for too many widths, for one outside its limits, and for a
 -- slice that is too short.
-use Prim.Native.Nat.{ℕ, _≤_, _<_}
+use Prim.Native.Nat.{ℕ, _≤_}
 use mathlib.Core.Path.{_≡_, refl, subst}
 use mathlib.Core.List.{List}
 use native.Mathlib.Omega.{arith}

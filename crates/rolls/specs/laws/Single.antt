@@ -1,12 +1,10 @@
 -- Each entry equals the single call's: drawing the sheet with that width, with slices that are long enough, gives the entry as its
 -- total, or refusal 8 if the entry is `no-total`.
 use Prim.Native.Nat.{ℕ, _≤_, _<_}
-use mathlib.Core.Path.{_≡_, refl, sym, _∙_, ap, subst}
-use mathlib.Core.Bool.{Bool, cond}
+use mathlib.Core.Path.{_≡_, refl, sym, _∙_, subst}
 use mathlib.Core.List.{List}
 use native.Mathlib.Omega.{arith}
 use borrow.Author.Tests.{ne-eqb}
-use lib.Dec.{eqb}
 use lib.IntN.{ℤ}
 use lib.ListN.{length, getD}
 use Rattle.leb128.specs.Grammar.{Accepts}
@@ -19,9 +17,8 @@ use Rattle.sheet.specs.Grammar.{sheet}
 use Rattle.sheet.specs.Limits.{max-width}
 use Rattle.sheet.specs.Reading.{read-sheet}
 use Rattle.sheet.specs.laws.Sheets.{read-accepted}
-use Rattle.drawing.specs.Sheet.{Sheet, sheet-of, at-width}
-use Rattle.drawing.specs.Drawing.{NoDrawing}
-use Rattle.drawing.specs.Widths.{with-width, TotalAt}
+use Rattle.drawing.specs.Sheet.{Sheet, sheet-of}
+use Rattle.drawing.specs.Widths.{with-width}
 use Rattle.drawing.specs.laws.Widths.{width-sheet}
 use Rattle.engine.specs.Refusals.{no-drawing}
 use Rattle.engine.specs.Draws.{Drawn, Room, DrawsSheet, Draws}

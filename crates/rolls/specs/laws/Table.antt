@@ -1,12 +1,11 @@
 -- On every row of the table each slice that meets the contract has the row's entries, by one test that is computed over the whole table.
 -- So the contract shuts out every program that leaves other entries of these sheets.
 use Prim.Native.Nat.{ℕ, zero, suc, _≤_, _<_}
-use mathlib.Core.Path.{_≡_, refl, sym, _∙_, ap, subst}
-use mathlib.Core.Bool.{Bool, true, false, _&&_}
-use mathlib.Core.List.{List, [], _∷_, _++_, map, flatMap}
+use mathlib.Core.Path.{_≡_, refl, sym, _∙_, subst}
+use mathlib.Core.Bool.{Bool, false, _&&_}
+use mathlib.Core.List.{List, [], _∷_, _++_, flatMap}
 use native.Mathlib.Omega.{arith}
 use lib.Dec.{T, leb, leb→le, eqb, eqb→eq}
-use lib.IntN.{ℤ}
 use lib.ListN.{length, getD, drop, length-append, length-drop, length-map, List·getD-append}
 use lib.Seq.{drop-at}
 use Rattle.leb128.specs.Number.{decode, grouped}
@@ -20,7 +19,7 @@ use Rattle.sheet.specs.Grammar.{crossed, separation, separations, layers, edge,
 use Rattle.sheet.specs.laws.Sheets.{read-accepted}
 use Rattle.network.specs.Sums.{all}
 use Rattle.network.specs.laws.Tests.{and-left, and-right}
-use Rattle.drawing.specs.Sheet.{Sheet, sheet-of, at-width}
+use Rattle.drawing.specs.Sheet.{Sheet, sheet-of}
 use Rattle.drawing.specs.Traces.{traces}
 use Rattle.drawing.specs.Drawing.{LeastDrawing, NoDrawing, is-drawing, total-length}
 use Rattle.drawing.specs.Certificate.{meets-rules, bound}
@@ -30,7 +29,7 @@ use Rattle.drawing.specs.laws.Judged.{judged-least}
 use Rattle.drawing.specs.laws.NoDrawing.{shows-none, no-drawing}
 use Rattle.drawing.specs.laws.Widths.{width-sheet}
 use Rattle.rolls.specs.Limits.{max-widths}
-use Rattle.rolls.specs.Totals.{Entry, Entries, Leaves, first-outside, widths-answer, Written}
+use Rattle.rolls.specs.Totals.{Entry, first-outside, Written}
 use Rattle.rolls.specs.Totals.Entry.{drawn, none}
 use Rattle.rolls.specs.Table.{Shown, Column, EntryRow, shown-entry, widths-of, entries-of, EveryEntry, entry-table}
 use Rattle.rolls.specs.Table.Shown.{total, undrawable}
