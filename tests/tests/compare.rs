@@ -7,7 +7,7 @@ mod wrong;
 
 use std::panic::{catch_unwind, AssertUnwindSafe};
 
-use compare::{page, sheet, Library};
+use compare::{page, sheet, totals, Library};
 use flaws::{totals_by, Flaw, Flawed, FLAWS};
 use rules::{Broken, Rule, READER, WRITER};
 use second::certificate;
@@ -378,6 +378,10 @@ fn the_page_tells_how_many_faults_there_are() {
         format!("the reader breaks {reader} rules, one at a time, and the writer {writer} "),
         format!("go by traces that are wrong in {} ways ", WAYS.len()),
         format!("layer by layer with {} mistakes ", MISTAKES.len()),
+        format!(
+            "on one good sheet in {}, chosen by its bytes, at 64 too.",
+            totals::SHARE
+        ),
         format!("The totals at many widths have {} flaws ", FLAWS.len()),
         format!("are added with each of the {} mistakes.", MISTAKES.len()),
         format!("Each of the {} faults is found.", faults().len()),

@@ -11,7 +11,7 @@ use strip_tests::random::Random;
 /// What every element holds before a call.
 const FILL: u32 = 0xa5a5_a5a5;
 /// One good sheet in so many gets a list of 64 widths.
-const SHARE: u16 = 16;
+pub const SHARE: u16 = 16;
 /// The first number past the limit of a width.
 const TOO_GREAT: u32 = WIDTH_LIMIT as u32 + 1;
 
