@@ -269,7 +269,7 @@ static void refusals(void) {
 /* Each refusal of a list of widths: first for its length, then for the first width that is too
  * great, then for the slice of totals. */
 static void width_refusals(void) {
-    /* no width is taken by its low 12 or 16 bits, and the mark is no width */
+    /* no width is taken by its low 12 or 16 bits, and STRIP_NO_TOTAL is no width */
     const uint32_t too_great[] = {4096, 65535, 65536, 65541, 2147483648, STRIP_NO_TOTAL};
     const uint8_t no_drawing[] = {0x53, 0x50, 0x31, 0x00, 0x01, 0x02, 0x01, 0x00, 0x00};
     uint32_t widths[STRIP_MAX_WIDTHS + 1] = {0};
