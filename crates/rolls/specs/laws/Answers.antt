@@ -100,11 +100,12 @@ none-outside [] h i l = absurd (omega arith)
 none-outside (w ∷ ws) h zero l = first-inside w ws h .0
 none-outside (w ∷ ws) h (suc i) l = none-outside ws (first-inside w ws h .1) i (omega arith)
 
+-- what is refused is not written
+pub refused-not : {A : Type 0} {r : Refusal} {count : ℕ} → Outcome.refused r ≡ wrote count → A
+refused-not e = let z : _≡_ {A = ℕ} 0 1 = cc in absurd (omega arith)
+
 -- if totals are written, every width is within its limits
 pub wrote-within : (ws : List ℕ) (room count : ℕ) → widths-answer ws room ≡ wrote count → Within ws
 wrote-within ws room count =
     answer-cases ws room (λ (o : Outcome). o ≡ wrote count → Within ws)
-    (λ e. nothing e) (λ few l e. nothing e) (λ e. nothing e) (λ few inside e. none-outside ws inside)
-  where
-    nothing : {A : Type 0} {r : Refusal} → Outcome.refused r ≡ wrote count → A
-    nothing e = let z : _≡_ {A = ℕ} 0 1 = cc in absurd (omega arith)
+    (λ e. refused-not e) (λ few l e. refused-not e) (λ e. refused-not e) (λ few inside e. none-outside ws inside)

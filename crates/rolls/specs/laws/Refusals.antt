@@ -1,7 +1,7 @@
 -- The call for many widths refuses with 1 to 7 and 11 only: as reading does, for too many widths, for one outside its limits, and for a
 -- slice that is too short.
 use Prim.Native.Nat.{ℕ, _≤_}
-use mathlib.Core.Path.{_≡_, refl, subst}
+use mathlib.Core.Path.{_≡_, refl, sym, subst}
 use mathlib.Core.List.{List}
 use native.Mathlib.Omega.{arith}
 use lib.ListN.{length}
@@ -17,14 +17,14 @@ use Rattle.rolls.specs.Limits.{max-widths}
 use Rattle.rolls.specs.Refusals.{TotalsRefusal}
 use Rattle.rolls.specs.Refusals.TotalsRefusal.{read, many, outside, short}
 use Rattle.rolls.specs.Totals.{first-outside, widths-answer, totals-answer}
-use Rattle.rolls.specs.laws.Answers.{answer-cases}
+use Rattle.rolls.specs.laws.Answers.{answer-cases, refused-not}
 
 -- a refusal of a good sheet
 widths-refusal : (ws : List ℕ) (room : ℕ) (r : Refusal) → widths-answer ws room ≡ Outcome.refused r → TotalsRefusal r
 widths-refusal ws room r =
     answer-cases ws room (λ (o : Outcome). o ≡ Outcome.refused r → TotalsRefusal r)
     (λ e. many cc) (λ few l e. outside {i = first-outside ws} (omega arith) cc) (λ e. short cc)
-    (λ few inside e. let z : _≡_ {A = ℕ} 0 1 = cc in absurd (omega arith))
+    (λ few inside e. refused-not (sym e))
 
 -- a refusal of any input
 pub totals-refusals : (bytes ws : List ℕ) (room : ℕ) (r : Refusal) → totals-answer (read-sheet bytes) ws room ≡ Outcome.refused r
@@ -42,8 +42,5 @@ pub totals-count : (read : Result) (ws : List ℕ) (room count : ℕ) → totals
 unfolding totals-answer
 totals-count (elements numbers) ws room count e =
     answer-cases ws room (λ (o : Outcome). o ≡ wrote count → (count ≡ length ws) × (length ws ≤ max-widths))
-    (λ e. nothing e) (λ few l e. nothing e) (λ e. nothing e) (λ few inside e. (cc, few)) e
-  where
-    nothing : {A : Type 0} {s : Refusal} → Outcome.refused s ≡ wrote count → A
-    nothing e = let z : _≡_ {A = ℕ} 0 1 = cc in absurd (omega arith)
-totals-count (Result.refused r) ws room count e = let z : _≡_ {A = ℕ} 0 1 = cc in absurd (omega arith)
+    (λ e. refused-not e) (λ few l e. refused-not e) (λ e. refused-not e) (λ few inside e. (cc, few)) e
+totals-count (Result.refused r) ws room count e = refused-not e
