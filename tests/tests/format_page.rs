@@ -5,11 +5,11 @@ mod tools;
 
 use std::fs;
 
-use compare::grouped;
+use compare::{grouped, totals, Proved};
 use second::certificate::floor;
 use second::checker;
 use second::sheet::{EDGE_LIMIT, NUMBER_LIMIT, PLAIN, STRAIGHT, WIDTH_LIMIT};
-use second::totals::{totals as second_totals, NO_TOTAL, WIDTHS_LIMIT};
+use second::totals::{NO_TOTAL, WIDTHS_LIMIT};
 use strip::{Narrowest, Refusal};
 use strip_tests::document;
 use strip_tests::draft::{Draft, Separation};
@@ -124,17 +124,10 @@ fn narrowest_tests_the_width() {
 /// The totals of a sheet at widths, in a slice of so many: both implementations tell the same, and leave
 /// the same in the slice.
 fn totals_in(bytes: &[u8], widths: &[u32], room: usize) -> Result<Vec<u32>, Refusal> {
-    let (mut proved, mut second) = (vec![9; room], vec![9; room]);
-    let answer = strip::totals(bytes, widths, &mut proved);
-    let other = second_totals(bytes, widths, &mut second);
-    let other = other.map_err(|told| Refusal {
+    totals::into(&Proved, bytes, widths, room).map_err(|told| Refusal {
         number: told.number,
         offset: told.offset as u32,
-    });
-    assert_eq!((&answer, &proved), (&other, &second), "{widths:?}");
-    let rest = proved.split_off(answer.unwrap_or(0));
-    assert!(rest.iter().all(|&element| element == 9), "{widths:?}");
-    answer.map(|_| proved)
+    })
 }
 
 /// Numbers as the page lists them.

@@ -1,6 +1,6 @@
 //! The vectors find the faults that the comparison finds: wrong traces, totals added with a mistake, flaws of
-//! totals at many widths, broken rules of coordinate files; and a checker with too few bits. Each gives a wrong answer in the file of the
-//! call that has the fault.
+//! totals at many widths, broken rules of coordinate files; and a checker with too few bits. Each gives a
+//! wrong answer in the file of the call that has the fault.
 
 mod asked;
 mod flaws;
@@ -159,7 +159,7 @@ fn flaws_of_totals_at_many_widths_are_found() {
 #[test]
 fn broken_rules_of_coordinate_files_are_found() {
     for (call, rules) in [("read_drawing", &READER[..]), ("write_drawing", &WRITER)] {
-        // as above
+        // an answer does not show what stands in a slice behind it, or after a refusal
         let is_shown = |rule: &&Rule| ![Rule::Behind, Rule::OnRefusal].contains(rule);
         for &rule in rules.iter().filter(is_shown) {
             let count = wrong_answers(&WrongFiles(rule), call);
