@@ -1,4 +1,6 @@
 // The first nodes of a sheet's layers and the arcs of its network, loaded into lent slices, the arcs in the packed layout.
+#![tactic(auto)]
+
 mod edges;
 mod fill;
 mod layers;

@@ -1,4 +1,6 @@
 // The checker of certificates (document 01's pull lists).
+#![tactic(auto)]
+
 mod arc;
 mod judge;
 mod rules;

@@ -1,5 +1,7 @@
 // The primal-dual method: flows and potentials of a network that fit each other, least in cost and leftmost among the least.
 // Numbers are stored with something added, so that all are natural; sums and tests are on 64 bits, the slices hold 32.
+#![tactic(auto)]
+
 mod arc;
 mod augment;
 mod ends;

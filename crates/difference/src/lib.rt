@@ -1,5 +1,7 @@
 // The least solution of difference constraints, read off the hard sides of packed arcs: every value starts at 0 and is
 // raised only where an arc forces it.
+#![tactic(auto)]
+
 mod limits;
 mod number;
 mod raise;

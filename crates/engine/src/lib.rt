@@ -1,5 +1,7 @@
 // Drawing a sheet: the leftmost least drawing, its total and the list that shows the total to be least; and the minimum width at
 // which a sheet can be drawn.
+#![tactic(auto)]
+
 pub mod inside;
 mod limits;
 mod refusals;

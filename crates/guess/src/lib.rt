@@ -1,5 +1,7 @@
 // A guess of flows and potentials of a network of packed arcs, for a caller that tests it. Nothing is proved of a guess but that it ends
 // and stays within its slices: so this crate has no public call, only a door to the guess (`inside`), and its layout.
+#![tactic(auto)]
+
 mod augment;
 mod entries;
 pub mod inside;

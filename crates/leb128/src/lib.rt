@@ -1,4 +1,6 @@
 // Numbers in bytes and in lists: the reader and the writer of one number, and what a format of numbers answers.
+#![tactic(auto)]
+
 pub mod inside;
 pub mod limits;
 mod reader;

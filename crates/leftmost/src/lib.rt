@@ -1,5 +1,7 @@
 // The leftmost least potentials of any network of packed arcs, and flows that show them to be least: the least solution of the
 // hard constraints, then a guess that shows itself to be right, else the circulation from the start.
+#![tactic(auto)]
+
 mod attempt;
 mod optimal;
 mod start;

@@ -1,4 +1,6 @@
 // Test of the library: answers each case of the standard input with what the library answers.
+#![tactic(auto)]
+
 mod cases;
 mod draw;
 mod formats;

@@ -1,4 +1,6 @@
 // Networks of arcs with convex costs: how a slice of 32-bit numbers holds their arcs and flows, and which a solver takes.
+#![tactic(auto)]
+
 mod form;
 pub mod layout;
 pub mod limits;

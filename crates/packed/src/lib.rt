@@ -1,4 +1,6 @@
 // Packed arcs and places, of whatever sheet: the ends and weights of packed edges, the coordinates of nodes, another width.
+#![tactic(auto)]
+
 mod ends;
 mod widths;
 

@@ -1,4 +1,6 @@
 // The program `place`: draws the sheet on its standard input, and prints the drawing or the refusal.
+#![tactic(auto)]
+
 mod answer;
 
 use crate::answer::answer;

@@ -1,4 +1,6 @@
 // The text of an answer: of a drawing, or of a refusal.
+#![tactic(auto)]
+
 mod delivery;
 pub mod limits;
 mod lines;

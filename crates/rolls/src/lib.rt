@@ -1,4 +1,6 @@
 // The totals of one sheet at many widths.
+#![tactic(auto)]
+
 mod entries;
 mod limits;
 mod order;

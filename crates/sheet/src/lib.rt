@@ -1,5 +1,7 @@
 // Reader and writer of sheets and of coordinate files: one pass walks the grammar and writes nothing, a second one fills the
 // lent slice.
+#![tactic(auto)]
+
 mod coordinates;
 mod formats;
 pub mod layout;

@@ -1,5 +1,7 @@
 // The library for other languages: calls under C names, each with its answer in one word, and its version. Nothing but the lent slices
 // is written.
+#![tactic(auto)]
+
 mod version;
 mod words;
 

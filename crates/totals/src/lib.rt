@@ -1,4 +1,6 @@
 // The total of packed edges, added from the last layer to the first.
+#![tactic(auto)]
+
 mod chains;
 mod lengths;
 mod starts;

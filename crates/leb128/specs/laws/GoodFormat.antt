@@ -110,7 +110,7 @@ module _ (magic : List ℕ) (grammar : Grammar) where
       record { last = m.0; good = rw are at (good_bytes bytes m.0 m.1 w.0); ends = w.1 }
 
 -- numbers that reach from a position of a list to its end are the rest of the list
-pub chain_list : {grammar : Grammar} {ns : List ℕ} {at last : ℕ} (numbers : List ℕ)
+pub chain_list : (numbers : List ℕ) {grammar : Grammar} {ns : List ℕ} {at last : ℕ}
     → Chain (in_list numbers) grammar at ns last → length numbers ≤ last → at ≤ length numbers → ns ≡ drop at numbers
 unfolding in_list
 chain_list numbers none h k = sym (drop_of_length-le numbers h)

@@ -79,7 +79,7 @@ one_number (above base) bytes at n after h e = go (byte_item bytes at) refl e
     go (Item.refused r) i e = let z : ◌≡◌ {A = ℕ} 0 1 = cc in absurd (omega arith)
 
 -- the bytes that a chain passes
-chain_bytes : {grammar : Grammar} {ns : List ℕ} {at last : ℕ} (bytes : List ℕ) → AreBytes bytes
+chain_bytes : (bytes : List ℕ) {grammar : Grammar} {ns : List ℕ} {at last : ℕ} → AreBytes bytes
     → Chain (in_bytes bytes) grammar at ns last → drop at bytes ≡ encoded grammar ns ++ drop last bytes
 unfolding encoded
 chain_bytes bytes h none = refl
