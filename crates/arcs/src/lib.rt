@@ -28,7 +28,7 @@ use network::layout::STRIDE;
 use sheet::limits::MAX_NUMBERS;
 
 // The counts of a sheet.
-#[derive(Drop)]
+#[derive(Clone, Copy)]
 pub struct Counts {
     pub layers: usize,
     pub nodes: usize,
@@ -61,7 +61,7 @@ pub fn load(bytes: &[u8], first: &mut [u16], arcs: &mut [u32]) -> Loaded
 }
 
 // The numbers of an arc as they are stored: kink, low and high with a number added.
-#[derive(Drop)]
+#[derive(Clone, Copy)]
 struct PackedArc {
     tail: u32,
     head: u32,
@@ -71,7 +71,7 @@ struct PackedArc {
 }
 
 // An edge off its numbers: its ends, and its strength.
-#[derive(Drop)]
+#[derive(Clone, Copy)]
 struct ReadEdge {
     upper: usize,
     lower: usize,
@@ -79,7 +79,7 @@ struct ReadEdge {
 }
 
 // What bounds every layer: the width of a drawing, and the ground, which is the node behind the last one.
-#[derive(Drop)]
+#[derive(Clone, Copy)]
 struct Frame {
     width: usize,
     ground: usize,
@@ -87,7 +87,7 @@ struct Frame {
 
 // What is known of a sheet before its arcs are filled in: the counts of its layers, nodes and edges, and the index behind
 // the numbers of its layers.
-#[derive(Drop)]
+#[derive(Clone, Copy)]
 struct Plan {
     layers: usize,
     behind: usize,

@@ -18,9 +18,9 @@ abbrev pub Drawn : Type 0
 Drawn = Reply ℕ
 
 -- what each case of the code's answer stands for
-unfoldable pub result : Answer → Drawn
-result (answer.Drawn total) = Reply.value total
-result (answer.Refused r) = Reply.refused r
+unfoldable pub drawn_of : Answer → Drawn
+drawn_of (answer.Drawn total) = Reply.value total
+drawn_of (answer.Refused r) = Reply.refused r
 
 -- both slices, of so many elements, are long enough: a place for each node, a number for each edge and two for each node
 pub record Room (S : Sheet) (places list : ℕ) : Type 0 where

@@ -14,7 +14,7 @@ ghost use Rattle.sheet.specs.Reading.{read_sheet};
 ghost use Rattle.leb128.specs.Words.{u32_most};
 ghost use Rattle.arcs.specs.Held.{Holds};
 ghost use Rattle.totals.specs.Lengths.{lengths_of};
-ghost use Rattle.engine.specs.Draws.{result, Draws};
+ghost use Rattle.engine.specs.Draws.{drawn_of, Draws};
 ghost use Rattle.engine.specs.MinimumWidth.{narrowing, Narrows};
 ghost use Rattle.engine.specs.inside.Stages.{DrawsHeld};
 
@@ -39,8 +39,8 @@ pub enum Answer {
 // The leftmost least drawing of a sheet, in front of the places, and a list that shows its total to be least, in front of the
 // list; or the refusal.
 pub fn draw(bytes: &[u8], places: &mut [u16], list: &mut [i32]) -> Answer
-    ensures* { λ r. ⌜ Draws (read_sheet bytes.now) places.old list.old
-        places.new list.new (result r) ⌝ }
+    ensures { Draws (read_sheet bytes.now) places.old list.old
+        places.new list.new (drawn_of result) }
 {
     if bytes.len() <= FEW_BYTES {
         let mut first = [0u16; MAX_FIRSTS];
@@ -54,8 +54,8 @@ pub fn draw(bytes: &[u8], places: &mut [u16], list: &mut [i32]) -> Answer
 
 // The same with room for every sheet.
 fn draw_any(bytes: &[u8], places: &mut [u16], list: &mut [i32]) -> Answer
-    ensures* { λ r. ⌜ Draws (read_sheet bytes.now) places.old list.old
-        places.new list.new (result r) ⌝ }
+    ensures { Draws (read_sheet bytes.now) places.old list.old
+        places.new list.new (drawn_of result) }
 {
     let mut first = [0u16; MAX_FIRSTS];
     let mut arcs = [0u32; MAX_ELEMENTS];
@@ -81,7 +81,7 @@ pub enum Minimum {
 
 // The least width at which a sheet can be drawn, whatever width it has, and the least total at that width; or the refusal.
 pub fn minimum_width(bytes: &[u8]) -> Minimum
-    ensures* { λ r. ⌜ Narrows (read_sheet bytes.now) (narrowing r) ⌝ }
+    ensures { Narrows (read_sheet bytes.now) (narrowing result) }
 {
     let mut first = [0u16; MAX_FIRSTS];
     let mut arcs = [0u32; MAX_ELEMENTS];
@@ -100,8 +100,8 @@ fn draw_loaded(
     list: &mut [i32],
 ) -> Answer
     requires { Holds first.now arcs.now counts }
-    ensures* { λ r. ⌜ DrawsHeld first.now arcs.now counts places.old list.old
-        places.new list.new (result r) ⌝ }
+    ensures { DrawsHeld first.now arcs.now counts places.old list.old
+        places.new list.new (drawn_of result) }
 {
     if places.len() < counts.nodes {
         return refused(SLICE_SHORT);
@@ -121,7 +121,7 @@ fn draw_loaded(
 
 // The total of a sheet's packed edges, with room for the sum after each layer.
 fn total(edges: &[u32], first: &[u16], places: &[u16]) -> u32
-    ensures* { λ r. ⌜ r ≡ min u32_most (lengths_of places.now edges.now) ⌝ }
+    ensures { result ≡ min u32_most (lengths_of places.now edges.now) }
 {
     let mut sums = [0u32; MAX_LAYERS as usize];
     totals::total(edges, first, places, &mut sums)

@@ -5,7 +5,7 @@ ghost use Rattle.sheet.specs.Limits.{max_width};
 ghost use Rattle.drawing.specs.laws.Widths.{greatest};
 ghost use Rattle.packed.specs.Widths.{widened};
 ghost use Rattle.arcs.specs.Held.{Holds};
-ghost use Rattle.engine.specs.Draws.{result};
+ghost use Rattle.engine.specs.Draws.{drawn_of};
 ghost use Rattle.engine.specs.MinimumWidth.{narrowing};
 ghost use Rattle.engine.specs.inside.Widths.{TotalHeld, NarrowsHeld, LowestHeld};
 
@@ -24,7 +24,7 @@ const WIDEST: u16 = MAX_WIDTH as u16;
 // The minimum width of a sheet's packed arcs, and the total at it.
 pub fn narrow(arcs: &mut [u32], first: &[u16], counts: Counts) -> Minimum
     requires { Holds first.now arcs.old counts }
-    ensures* { λ r. ⌜ NarrowsHeld first.now arcs.old counts (narrowing r) ⌝ }
+    ensures { NarrowsHeld first.now arcs.old counts (narrowing result) }
 {
     let mut values = [0u32; MAX_GROUNDED];
     let nodes = counts.nodes;
@@ -40,7 +40,7 @@ pub fn narrow(arcs: &mut [u32], first: &[u16], counts: Counts) -> Minimum
 fn narrow_to(arcs: &mut [u32], first: &[u16], counts: Counts, low: &[u32]) -> Minimum
     requires holds { Holds first.now arcs.old counts }
     requires lowest_held { LowestHeld arcs.old counts low.now }
-    ensures* { λ r. ⌜ NarrowsHeld first.now arcs.old counts (narrowing r) ⌝ }
+    ensures { NarrowsHeld first.now arcs.old counts (narrowing result) }
 {
     let width = greatest(low);
     match total_at(arcs, first, counts, width) {
@@ -56,8 +56,8 @@ fn narrow_to(arcs: &mut [u32], first: &[u16], counts: Counts, low: &[u32]) -> Mi
 pub fn total_at(arcs: &mut [u32], first: &[u16], counts: Counts, width: u16) -> Answer
     requires holds { Holds first.now arcs.old counts }
     requires width_le_max_width { width ≤ max_width }
-    ensures* answer { λ r. ⌜ TotalHeld first.now arcs.old counts width (result r) ⌝ }
-    ensures* slice { λ r. ⌜ arcs.new ≡ widened counts.nodes width arcs.old ⌝ }
+    ensures answer { TotalHeld first.now arcs.old counts width (drawn_of result) }
+    ensures slice { arcs.new ≡ widened counts.nodes width arcs.old }
 {
     let mut places = [0u16; MAX_NODES as usize];
     let mut list = [0i32; MAX_ARCS];
@@ -68,7 +68,7 @@ pub fn total_at(arcs: &mut [u32], first: &[u16], counts: Counts, width: u16) -> 
 // The greatest of numbers that fit 16 bits, 0 where there are none.
 fn greatest(numbers: &[u32]) -> u16
     requires { greatest numbers.now < list_limit }
-    ensures* { λ r. ⌜ r ≡ greatest numbers.now ⌝ }
+    ensures { result ≡ greatest numbers.now }
 {
     let mut most = 0;
     let mut i = 0;
@@ -81,7 +81,7 @@ fn greatest(numbers: &[u32]) -> u16
 
 // The greater of two numbers.
 fn greater(a: u32, b: u32) -> u32
-    ensures* { λ r. ⌜ r ≡ max a b ⌝ }
+    ensures { result ≡ max a b }
 {
     if a < b {
         return b;

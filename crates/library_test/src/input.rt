@@ -1,7 +1,8 @@
 // The lines of the standard input.
 ghost use Rattle.std.specs.Prelude.{◌≡◌, ◌<◌, ◌≤◌, length};
 
-use libc::STDIN_FILENO;
+// The standard input.
+const STANDARD_INPUT: i32 = 0;
 
 // The line end.
 const LINE_END: u32 = 10;
@@ -14,7 +15,7 @@ fn next_byte() -> u32
     ensures { result ≤ 256 }
 {
     let mut piece = [0u8; 1];
-    if io::read_full(STDIN_FILENO, &mut piece) == 0 {
+    if io::read_full(STANDARD_INPUT, &mut piece) == 0 {
         return INPUT_END;
     }
     wide(piece[0])

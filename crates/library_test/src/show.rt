@@ -2,16 +2,18 @@
 use checker::Verdict;
 use engine::{Answer as Drawing, Minimum};
 use leb128::{Answer, Found, Placed, Refusal};
-use libc::STDOUT_FILENO;
+
+// The standard output.
+const STANDARD_OUTPUT: i32 = 1;
 
 // Prints a text.
 pub fn text(text: &[u8]) {
-    io::write_all(STDOUT_FILENO, text);
+    io::write_all(STANDARD_OUTPUT, text);
 }
 
 // Prints a number in decimal digits.
 fn decimal(n: usize) {
-    io::print_decimal(STDOUT_FILENO, n as u64);
+    io::print_decimal(STANDARD_OUTPUT, n as u64);
 }
 
 // Prints a refusal.
@@ -97,7 +99,7 @@ pub fn minimum(minimum: Minimum) {
 // Prints a byte behind a space.
 fn byte(n: u8) {
     text(b" ");
-    io::print_hex(STDOUT_FILENO, n as u64, 2);
+    io::print_hex(STANDARD_OUTPUT, n as u64, 2);
 }
 
 // Prints the bytes of a slice.
@@ -112,7 +114,7 @@ pub fn bytes(bytes: &[u8]) {
 // Prints a number of 16 bits behind a space.
 fn number(n: u16) {
     text(b" ");
-    io::print_hex(STDOUT_FILENO, n as u64, 4);
+    io::print_hex(STANDARD_OUTPUT, n as u64, 4);
 }
 
 // Prints the numbers of a slice.
@@ -127,7 +129,7 @@ pub fn numbers(numbers: &[u16]) {
 // Prints a number of 32 bits behind a space.
 fn long_number(n: u32) {
     text(b" ");
-    io::print_hex(STDOUT_FILENO, n as u64, 8);
+    io::print_hex(STANDARD_OUTPUT, n as u64, 8);
 }
 
 // Prints the long numbers of a slice.
@@ -150,7 +152,7 @@ fn signed_number(n: i32) {
     if n < 0 {
         text(b"-");
     }
-    io::print_decimal(STDOUT_FILENO, magnitude(n));
+    io::print_decimal(STANDARD_OUTPUT, magnitude(n));
 }
 
 // Prints the numbers of a list.

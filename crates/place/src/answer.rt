@@ -2,7 +2,7 @@
 ghost use Rattle.std.specs.Prelude.{◌≡◌, ◌≤◌, length};
 ghost use Rattle.leb128.specs.Format.{outcome};
 ghost use Rattle.sheet.specs.Reading.{read_sheet};
-ghost use Rattle.engine.specs.Draws.{result};
+ghost use Rattle.engine.specs.Draws.{drawn_of};
 ghost use Rattle.report.specs.Limits.{max_text};
 ghost use Rattle.place.specs.Prints.{answer_text, Shows, PrintsFrom, Prints};
 ghost use Rattle.place.specs.inside.Telling.{Answered, «count_of»};
@@ -13,7 +13,7 @@ use sheet::limits::MAX_NODES;
 
 // How many elements were written.
 fn written(answer: leb128::Answer) -> usize
-    ensures* { λ r. ⌜ r ≡ count_of (outcome answer) ⌝ }
+    ensures { result ≡ count_of (outcome answer) }
 {
     match answer {
         leb128::Answer::Done(count) => count,
@@ -23,9 +23,9 @@ fn written(answer: leb128::Answer) -> usize
 
 // Writes the text of an answer of drawing into the front of the slice.
 fn tell(bytes: &[u8], places: &[u16], drawn: engine::Answer, text: &mut [u8]) -> usize
-    requires answered { Answered (read_sheet bytes.now) places.now (result drawn) }
+    requires answered { Answered (read_sheet bytes.now) places.now (drawn_of drawn) }
     requires max_text_in_bounds { max_text ≤ length text.old }
-    ensures* { λ r. ⌜ Shows (answer_text (read_sheet bytes.now) places.now (result drawn)) text.new r ⌝ }
+    ensures { Shows (answer_text (read_sheet bytes.now) places.now (drawn_of drawn)) text.new result }
 {
     match drawn {
         engine::Answer::Drawn(total) => written(drawing_text(bytes, places, total, text)),
@@ -36,7 +36,7 @@ fn tell(bytes: &[u8], places: &[u16], drawn: engine::Answer, text: &mut [u8]) ->
 // Draws a sheet into places and a list, and writes the text of the answer into the front of the slice.
 fn answer_within(bytes: &[u8], places: &mut [u16], list: &mut [i32], text: &mut [u8]) -> usize
     requires { max_text ≤ length text.old }
-    ensures* { λ r. ⌜ PrintsFrom (read_sheet bytes.now) places.old list.old text.new r ⌝ }
+    ensures { PrintsFrom (read_sheet bytes.now) places.old list.old text.new result }
 {
     let drawn = engine::draw(bytes, places, list);
     tell(bytes, places, drawn, text)
@@ -45,7 +45,7 @@ fn answer_within(bytes: &[u8], places: &mut [u16], list: &mut [i32], text: &mut 
 // Draws a sheet, and writes the text of the answer into the front of the slice.
 pub fn answer(bytes: &[u8], text: &mut [u8]) -> usize
     requires { max_text ≤ length text.old }
-    ensures* { λ r. ⌜ Prints (read_sheet bytes.now) text.new r ⌝ }
+    ensures { Prints (read_sheet bytes.now) text.new result }
 {
     let mut places = [0u16; MAX_NODES as usize];
     let mut list = [0i32; MAX_ARCS];

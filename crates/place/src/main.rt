@@ -4,51 +4,61 @@
 mod answer;
 
 use crate::answer::answer;
-use libc::{STDERR_FILENO, STDIN_FILENO, STDOUT_FILENO};
 use report::limits::MAX_TEXT;
 use sheet::limits::MAX_BYTES;
+use std::env::{Env, FillError};
+use std::io;
+use std::io::{Read, Write};
 
 // What is read of the input. A sheet has fewer bytes, so the byte behind it is among these, and no answer depends on any
 // later one.
 const INPUT_BYTES: usize = MAX_BYTES + 1;
 
+// Says on the standard error what failed, and why in the system's words, without the number that std puts behind them.
+fn complain(rt: &HostRuntime, what: &str, error: io::Error) -> io::Result<()> {
+    let said = format!(in rt.alloc(); "{error}")?;
+    let why = match said.as_str().rsplit_once(" (os error ") {
+        Some((words, _)) => words,
+        None => said.as_str(),
+    };
+    eprintln!(rt; "place: {what}: {why}")
+}
+
 // Draws a sheet, and prints the text of the answer by one write.
-fn print(bytes: &[u8]) {
+fn print(rt: &HostRuntime, bytes: &[u8]) {
     let mut text = [0u8; MAX_TEXT];
     let count = answer(bytes, &mut text);
-    if !io::write_all(STDOUT_FILENO, &text[0..count]) {
-        os::fail(b"place: standard output");
+    if let Err(error) = rt.stdout().write_all(&text[0..count]) {
+        let _ = complain(rt, "standard output", error);
     }
 }
 
 // Reads the input to its end or until the slice is full, in whatever pieces it comes, and prints the answer.
-fn run(input: &mut [u8]) {
+fn run(rt: &HostRuntime, input: &mut [u8]) {
     let mut done: usize = 0;
     while done < input.len() {
-        let got = libc::read(STDIN_FILENO, &mut input[done..]);
-        if got < 0 {
-            os::fail(b"place: standard input");
-            return;
+        match rt.stdin().read(&mut input[done..]) {
+            Err(error) => {
+                let _ = complain(rt, "standard input", error);
+                return;
+            }
+            Ok(0) => {
+                print(rt, &input[0..done]);
+                return;
+            }
+            Ok(count) => done += count,
         }
-        let count = io::count(got, &input[done..]);
-        if count == 0 {
-            print(&input[0..done]);
-            return;
-        }
-        done += count;
     }
-    print(input);
+    print(rt, input);
 }
 
 // Answers the sheet on standard input; with any argument, says how the program is used.
-fn main() {
-    if os::arg_count() > 1 {
-        io::write_all(
-            STDERR_FILENO,
-            b"place 0.7.0: draws the sheet on standard input; usage: place < SHEET\n",
-        );
+fn main(rt: HostRuntime) {
+    let mut argument = [0u8; 1];
+    if let Err(FillError::NotPresent) = rt.arg(1, &mut argument) {
+        let mut input = [0u8; INPUT_BYTES];
+        run(&rt, &mut input);
         return;
     }
-    let mut input = [0u8; INPUT_BYTES];
-    run(&mut input);
+    let _ = eprintln!(rt; "place 0.7.0: draws the sheet on standard input; usage: place < SHEET");
 }

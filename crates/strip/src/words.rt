@@ -2,7 +2,7 @@
 ghost use Rattle.std.specs.Prelude.{◌≡◌, ◌<◌};
 ghost use Rattle.leb128.specs.Format.{outcome};
 ghost use Rattle.checker.specs.Verdict.{judgement};
-ghost use Rattle.engine.specs.Draws.{result};
+ghost use Rattle.engine.specs.Draws.{drawn_of};
 ghost use Rattle.engine.specs.MinimumWidth.{narrowing};
 ghost use Rattle.strip.specs.Words.{number_unit, packed, outcome_word, drawn_word, judgement_word, «narrowed_word»};
 ghost use Rattle.strip.specs.HeldWords.{HeldJudgement, HeldDrawn, HeldNarrowed, HeldOutcome};
@@ -20,14 +20,14 @@ const SECOND_UNIT: u64 = 281474976710656;
 // A refusal's number, 0 where nothing is refused, and a value or an offset.
 fn word(number: u8, value: usize) -> u64
     requires { value < number_unit }
-    ensures* { λ r. ⌜ r ≡ packed 0 number value ⌝ }
+    ensures { result ≡ packed 0 number value }
 {
     number as u64 * NUMBER_UNIT + value as u64
 }
 
 // A result that is two numbers: its second value and its value.
 fn told_word(second: u16, value: u32) -> u64
-    ensures* { λ r. ⌜ r ≡ packed second 0 value ⌝ }
+    ensures { result ≡ packed second 0 value }
 {
     second as u64 * SECOND_UNIT + word(0, value as usize)
 }
@@ -35,7 +35,7 @@ fn told_word(second: u16, value: u32) -> u64
 // The answer of reading or writing, and of many widths.
 pub fn answer_word(answer: Answer) -> u64
     requires { HeldOutcome (outcome answer) }
-    ensures* { λ r. ⌜ r ≡ outcome_word (outcome answer) ⌝ }
+    ensures { result ≡ outcome_word (outcome answer) }
 {
     match answer {
         Answer::Done(count) => word(0, count),
@@ -45,8 +45,8 @@ pub fn answer_word(answer: Answer) -> u64
 
 // The answer of drawing.
 pub fn drawing_word(drawing: Drawing) -> u64
-    requires { HeldDrawn (result drawing) }
-    ensures* { λ r. ⌜ r ≡ drawn_word (result drawing) ⌝ }
+    requires { HeldDrawn (drawn_of drawing) }
+    ensures { result ≡ drawn_word (drawn_of drawing) }
 {
     match drawing {
         Drawing::Drawn(total) => word(0, total as usize),
@@ -57,7 +57,7 @@ pub fn drawing_word(drawing: Drawing) -> u64
 // The answer of checking.
 pub fn verdict_word(verdict: Verdict) -> u64
     requires { HeldJudgement (judgement verdict) }
-    ensures* { λ r. ⌜ r ≡ judgement_word (judgement verdict) ⌝ }
+    ensures { result ≡ judgement_word (judgement verdict) }
 {
     match verdict {
         Verdict::Yes => word(0, 1),
@@ -69,7 +69,7 @@ pub fn verdict_word(verdict: Verdict) -> u64
 // The answer for the minimum width.
 pub fn minimum_word(minimum: Minimum) -> u64
     requires { HeldNarrowed (narrowing minimum) }
-    ensures* { λ r. ⌜ r ≡ narrowed_word (narrowing minimum) ⌝ }
+    ensures { result ≡ narrowed_word (narrowing minimum) }
 {
     match minimum {
         Minimum::Found(n) => told_word(n.width, n.total),

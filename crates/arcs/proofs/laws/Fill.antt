@@ -11,7 +11,7 @@ use Rattle.sheet.specs.Limits.{max_nodes, max_edges}
 use Rattle.sheet.specs.Layout.{width_at, first_layer_at, nodes_at, edges_at, edge_stride, next_layer}
 use Rattle.network.specs.Network.{Arc}
 use Rattle.network.specs.Packed.{stride, packs, packed}
-use Rattle.network.specs.laws.PackedBack.{packs_length}
+use Rattle.network.proofs.laws.PackedBack.{packs_length}
 use Rattle.drawing.specs.Sheet.{Edge, edges_of, first_nodes, sheet_of}
 use Rattle.drawing.specs.Traces.{traces}
 use Rattle.drawing.specs.Arcs.{edge_arc, layer_arcs, network}

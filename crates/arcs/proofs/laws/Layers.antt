@@ -12,7 +12,7 @@ use Rattle.sheet.specs.Limits.{max_nodes}
 use Rattle.sheet.specs.Layout.{first_layer_at, nodes_at, separations_at, layer_size}
 use Rattle.network.specs.Network.{Arc, upper_bound}
 use Rattle.network.specs.Packed.{stride, kink_zero, flow_zero, high_none, packs}
-use Rattle.network.specs.laws.PackedBack.{packs_length}
+use Rattle.network.proofs.laws.PackedBack.{packs_length}
 use Rattle.drawing.specs.Sheet.{pairs_of, layers_of}
 use Rattle.drawing.specs.Arcs.{separation_arcs, layer_arcs}
 use Rattle.drawing.specs.laws.Good.{GoodLayer}

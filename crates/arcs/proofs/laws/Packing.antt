@@ -12,7 +12,7 @@ use Rattle.leb128.specs.laws.Storing.{puts_then, Left, left_part}
 use Rattle.network.specs.Packed.{tail_at, head_at, kink_at, low_at, high_at, stride}
 use Rattle.network.specs.Packed.{kink_zero, flow_zero, low_none, high_none, raised, packs}
 use Rattle.network.specs.Network.{Arc, upper_bound}
-use Rattle.network.specs.laws.PackedBack.{packs_append}
+use Rattle.network.proofs.laws.PackedBack.{packs_append}
 use Rattle.sheet.specs.Limits.{max_weight}
 use Rattle.drawing.specs.Arcs.{maximum_arc}
 use Rattle.arcs.specs.inside.Traces.{strength_arc}

@@ -12,7 +12,7 @@ use Rattle.leb128.specs.laws.Storing.{Left, left_end}
 use Rattle.sheet.specs.Limits.{max_nodes}
 use Rattle.sheet.specs.Layout.{separation_stride, minimum_at, maximum_at}
 use Rattle.network.specs.Packed.{stride, kink_zero, flow_zero, high_none, packs}
-use Rattle.network.specs.laws.PackedBack.{packs_length}
+use Rattle.network.proofs.laws.PackedBack.{packs_length}
 use Rattle.drawing.specs.Sheet.{pairs_of}
 use Rattle.drawing.specs.Arcs.{minimum_arc, maximum_arc, separation_arcs}
 use Rattle.arcs.specs.inside.Pieces.{pair_at}

@@ -14,7 +14,7 @@ use Rattle.sheet.specs.Limits.{max_nodes}
 use Rattle.sheet.specs.Layout.{edge_stride}
 use Rattle.network.specs.Sums.{all}
 use Rattle.network.specs.Packed.{stride, packs}
-use Rattle.network.specs.laws.PackedBack.{packs_length}
+use Rattle.network.proofs.laws.PackedBack.{packs_length}
 use Rattle.drawing.specs.Sheet.{Edge, edge_of, edges_of}
 use Rattle.drawing.specs.Traces.{any_parallel, whole_trace, bare, traces_behind, traces}
 use Rattle.drawing.specs.Arcs.{edge_arc}

@@ -14,7 +14,7 @@ use Rattle.sheet.specs.Limits.{max_nodes}
 use Rattle.network.specs.Sums.{all}
 use Rattle.network.specs.Network.{Arc}
 use Rattle.network.specs.Packed.{kink_at, stride, kink_zero, packs, packed, storable, arcs_to, network_of}
-use Rattle.network.specs.laws.PackedBack.{packs_append, packs_length, arcs_back, kinks_in}
+use Rattle.network.proofs.laws.PackedBack.{packs_append, packs_length, arcs_back, kinks_in}
 use Rattle.drawing.specs.Sheet.{Layer, Edge, Sheet, sheet_of}
 use Rattle.drawing.specs.Traces.{traces}
 use Rattle.drawing.specs.Certificate.{certificate_size}

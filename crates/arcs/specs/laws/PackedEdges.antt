@@ -4,7 +4,7 @@ use Rattle.std.proofs.Common.{sym, ◌∙◌, ap, arith, drop-drop, ne_eqb, lt-l
 use Rattle.std.proofs.lemmas.List.{length-map}
 use Rattle.sheet.specs.Limits.{max_weight}
 use Rattle.network.specs.Packed.{stride, flow_zero, high_none, packs}
-use Rattle.network.specs.laws.PackedBack.{packs_length}
+use Rattle.network.proofs.laws.PackedBack.{packs_length}
 use Rattle.drawing.specs.Sheet.{Edge}
 use Rattle.drawing.specs.Arcs.{edge_arc_between, edge_arc}
 use Rattle.drawing.specs.Carriers.{At}

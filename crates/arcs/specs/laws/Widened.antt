@@ -14,7 +14,7 @@ use Rattle.sheet.specs.Grammar.{sheet}
 use Rattle.network.specs.Sums.{all}
 use Rattle.network.specs.Network.{Arc, upper_bound}
 use Rattle.network.specs.Packed.{stride, packs, packed}
-use Rattle.network.specs.laws.PackedBack.{packs_length}
+use Rattle.network.proofs.laws.PackedBack.{packs_length}
 use Rattle.network.specs.laws.Tests.{and_left, and_right}
 use Rattle.drawing.specs.Sheet.{Pair, Layer, Edge, Sheet, pairs_of, layers_of, sheet_of, at_width}
 use Rattle.drawing.specs.Traces.{traces}

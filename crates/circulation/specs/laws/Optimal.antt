@@ -9,9 +9,9 @@ use Rattle.network.specs.Integers.{down, up, eqZ}
 use Rattle.network.specs.laws.Integers.{eqZ→eq}
 use Rattle.network.specs.Network.{LeftmostLeast, unlimited, limit, reached, past_kink}
 use Rattle.network.specs.Flows.{Flow, flows, complementary}
-use Rattle.network.specs.laws.Residuals.{residuals}
-use Rattle.network.specs.laws.Held.{Held, head_holds, tail_holds, held_leftmost}
-use Rattle.network.specs.laws.Held.Held.{by_ground}
+use Rattle.network.proofs.laws.Residuals.{residuals}
+use Rattle.network.proofs.laws.Held.{Held, head_holds, tail_holds, held_leftmost}
+use Rattle.network.proofs.laws.Held.Held.{by_ground}
 use Rattle.network.specs.WellFormed.{WellFormed}
 use Rattle.circulation.specs.Input.{Limited}
 use Rattle.circulation.specs.inside.Finish.{Settled}

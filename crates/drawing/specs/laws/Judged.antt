@@ -10,8 +10,8 @@ use Rattle.network.specs.Sums.{all}
 use Rattle.network.specs.laws.Tests.{and_left, and_right, and_both, test_ext}
 use Rattle.network.specs.Network.{Network, Feasible, integers, legal, total, is_feasible}
 use Rattle.network.specs.Flows.{rules, bound as network-bound, certifies}
-use Rattle.network.specs.laws.Certified.{feasible_is, certified_least}
-use Rattle.network.specs.laws.Duality.{weak_duality}
+use Rattle.network.proofs.laws.Certified.{feasible_is, certified_least}
+use Rattle.network.proofs.laws.Duality.{weak_duality}
 use Rattle.drawing.specs.Sheet.{Sheet, sheet_of}
 use Rattle.drawing.specs.Drawing.{separated, edge_aligned, Drawing, is_drawing, total_length, LeastDrawing}
 use Rattle.drawing.specs.Certificate.{meets_rules, bound}

@@ -4,8 +4,8 @@ use Rattle.std.proofs.Common.{sym, ◌∙◌, subst}
 use Rattle.std.specs.Prelude.{List, ℕ, T, ℤ}
 use Rattle.network.specs.Network.{Network, Feasible, integers}
 use Rattle.network.specs.Flows.{rules, complementary}
-use Rattle.network.specs.laws.Duality.{equal_tight}
-use Rattle.network.specs.laws.HeldOnly.{leftmost_test, test_leftmost, leftmost_passes}
+use Rattle.network.proofs.laws.Duality.{equal_tight}
+use Rattle.network.proofs.laws.HeldOnly.{leftmost_test, test_leftmost, leftmost_passes}
 use Rattle.drawing.specs.Sheet.{sheet_of}
 use Rattle.drawing.specs.Drawing.{LeftmostDrawing}
 use Rattle.drawing.specs.Arcs.{network}

@@ -12,7 +12,7 @@ use Rattle.network.specs.laws.Tests.{and_left, and_right, and_both, all_map, all
 use Rattle.network.specs.laws.Sums.{sum_image}
 use Rattle.network.specs.Network.{Arc, integers}
 use Rattle.network.specs.Flows.{Flow, flows, allowed, inflow, balanced, rules, bound_term, bound as network-bound}
-use Rattle.network.specs.laws.NoSolution.{hard_arc, hard, refutes, none_feasible}
+use Rattle.network.proofs.laws.NoSolution.{hard_arc, hard, refutes, none_feasible}
 use Rattle.drawing.specs.Sheet.{Sheet}
 use Rattle.drawing.specs.Drawing.{NoDrawing}
 use Rattle.drawing.specs.Arcs.{edge_arc_between, maximum_arc, network}

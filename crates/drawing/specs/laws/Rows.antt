@@ -6,7 +6,7 @@ use Rattle.leb128.specs.Format.Result.{elements, refused}
 use Rattle.sheet.specs.Reading.{read_sheet}
 use Rattle.network.specs.Sums.{all}
 use Rattle.network.specs.Network.{integers}
-use Rattle.network.specs.laws.HeldOnly.{leftmost_test}
+use Rattle.network.proofs.laws.HeldOnly.{leftmost_test}
 use Rattle.network.specs.laws.Tests.{and_left, and_right, is_true, is_false}
 use Rattle.drawing.specs.Sheet.{Sheet, sheet_of}
 use Rattle.drawing.specs.Drawing.{total_length}

@@ -7,9 +7,9 @@ use Rattle.leb128.specs.Walk.{checked, led, followed, walk}
 use Rattle.leb128.specs.Format.{same, complete, walk_bytes, made, reading}
 use Rattle.sheet.specs.Reading.{read_sheet}
 use Rattle.sheet.specs.Grammar.{crossed, separation, separations, layers, edge, edges, sheet}
-use Rattle.network.specs.laws.Residuals.{residuals}
-use Rattle.network.specs.laws.HeldSearch.{held_set}
-use Rattle.network.specs.laws.HeldOnly.{leftmost_test}
+use Rattle.network.proofs.laws.Residuals.{residuals}
+use Rattle.network.proofs.laws.HeldSearch.{held_set}
+use Rattle.network.proofs.laws.HeldOnly.{leftmost_test}
 use Rattle.drawing.specs.Sheet.{sheet_of}
 use Rattle.drawing.specs.Traces.{traces}
 use Rattle.drawing.specs.Drawing.{is_drawing, total_length}

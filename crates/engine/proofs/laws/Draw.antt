@@ -27,7 +27,7 @@ use Rattle.arcs.specs.laws.Loaded.{LoadedSheet}
 use Rattle.arcs.specs.Held.{Holds}
 use Rattle.arcs.specs.laws.HeldArcs.{size_is, loaded_holds, holds_reads}
 use Rattle.engine.specs.Refusals.{no_drawing, finding_refusal}
-use Rattle.engine.specs.Draws.{Drawn, result, DrawsSheet, Draws}
+use Rattle.engine.specs.Draws.{Drawn, drawn_of, DrawsSheet, Draws}
 use Rattle.engine.specs.Draws.Refuses.{few_places, few_numbers, none}
 use Rattle.engine.specs.inside.Stages.{DrawsHeld, numbered, FillsSheet, FillsHeld, Settled, Settles}
 use Rattle.engine.specs.declared.Answer.{Answer}
@@ -38,18 +38,18 @@ use Rattle.engine.proofs.laws.Finish.{totalled}
 module _ {f a : List ℕ} {c : Counts} (p : List ℕ) (y : List ℤ) where
   -- too few places
   pub few_places_drawn : {r : Answer} → r ≡ answer.Refused (refusal slice_short 0) → length p < c.nodes
-      → DrawsHeld f a c p y p y (result r)
-  unfolding result
+      → DrawsHeld f a c p y p y (drawn_of r)
+  unfolding drawn_of
   few_places_drawn e l h =
-      subst (λ (r : Answer). DrawsSheet (sheet_of h.numbers) p y p y (result r)) (sym e)
+      subst (λ (r : Answer). DrawsSheet (sheet_of h.numbers) p y p y (drawn_of r)) (sym e)
       (few_places (omega (arith, h.nodes_are)), refl, (refl, refl))
 
   -- too short a list
   pub few_numbers_drawn : {r : Answer} → r ≡ answer.Refused (refusal slice_short 0) → length y < c.arcs
-      → DrawsHeld f a c p y p y (result r)
-  unfolding result
+      → DrawsHeld f a c p y p y (drawn_of r)
+  unfolding drawn_of
   few_numbers_drawn e l h =
-      subst (λ (r : Answer). DrawsSheet (sheet_of h.numbers) p y p y (result r)) (sym e)
+      subst (λ (r : Answer). DrawsSheet (sheet_of h.numbers) p y p y (drawn_of r)) (sym e)
       (few_numbers (omega (arith, size_is h)), refl, (refl, refl))
 
 -- no drawing: both slices are as they were
@@ -70,18 +70,18 @@ numbered_refused (suc k) total e = refl
 
 -- so drawing refuses where filling does
 pub refused_filled : {f a : List ℕ} {c : Counts} (p₀ p : List ℕ) (y₀ y : List ℤ) {k : ℕ} {r : Answer} → FillsHeld a c p₀ y₀ p y k
-    → (k ≡ 0 → ⊥) → r ≡ answer.Refused (refusal k 0) → DrawsHeld f a c p₀ y₀ p y (result r)
-unfolding result
+    → (k ≡ 0 → ⊥) → r ≡ answer.Refused (refusal k 0) → DrawsHeld f a c p₀ y₀ p y (drawn_of r)
+unfolding drawn_of
 refused_filled {f} p₀ p y₀ y {k} {r} g e is h =
     let S : Sheet = sheet_of h.numbers in
-    let same : numbered k (total_length S (take S.nodes p)) ≡ result r = numbered_refused k _ e ∙ ap result (sym is) in
+    let same : numbered k (total_length S (take S.nodes p)) ≡ drawn_of r = numbered_refused k _ e ∙ ap drawn_of (sym is) in
     subst (DrawsSheet S p₀ y₀ p y) same (g f h)
 
 -- where filling refuses nothing, drawing answers the total
 pub total_filled : {f a : List ℕ} {c : Counts} (p₀ p : List ℕ) (y₀ y : List ℤ) {k r : ℕ} → FillsHeld a c p₀ y₀ p y k → k ≡ 0
     → r ≡ min u32_most (lengths_of (take (c.nodes - 0) p) (take (stride * c.edges - 0) a))
-    → DrawsHeld f a c p₀ y₀ p y (result (answer.Drawn r))
-unfolding result
+    → DrawsHeld f a c p₀ y₀ p y (drawn_of (answer.Drawn r))
+unfolding drawn_of
 total_filled {f} p₀ p y₀ y {r = r} g is e h =
     totalled h p₀ p y₀ y r (subst (FillsSheet (sheet_of h.numbers) p₀ y₀ p y) is (g f h)) e
 
@@ -116,8 +116,8 @@ is_settled a c x nodes (suc k) g e = absurd (omega arith)
 
 -- the refusal of reading
 pub refused_drawn : (bytes p : List ℕ) (y : List ℤ) {r : Refusal} → read_sheet bytes ≡ Result.refused r
-    → Draws (read_sheet bytes) p y p y (result (answer.Refused r))
-unfolding Draws result
+    → Draws (read_sheet bytes) p y p y (drawn_of (answer.Refused r))
+unfolding Draws drawn_of
 refused_drawn bytes p y e = rw e (refl, (refl, refl))
 
 -- a sheet that was loaded

@@ -18,7 +18,7 @@ use Rattle.network.specs.Net.{at}
 use Rattle.network.specs.Integers.{down, up}
 use Rattle.network.specs.laws.Indexed.{upto_length, upto_in}
 use Rattle.network.specs.laws.IntegerParts.{less_parts}
-use Rattle.network.specs.laws.Duality.{tight_equal}
+use Rattle.network.proofs.laws.Duality.{tight_equal}
 use Rattle.sheet.specs.Limits.{max_width}
 use Rattle.drawing.specs.Sheet.{Sheet, sheet_of}
 use Rattle.drawing.specs.Drawing.{coordinate, LeftmostDrawing, total_length}

@@ -27,7 +27,7 @@ use Rattle.arcs.specs.laws.HeldArcs.{proper, size_is, loaded_holds, holds_reads}
 use Rattle.arcs.specs.laws.Loaded.{LoadedSheet}
 use Rattle.arcs.specs.laws.Widened.{holds_width, holds_width_sheet}
 use Rattle.engine.specs.Refusals.{no_width}
-use Rattle.engine.specs.Draws.{Drawn, result, DrawsSheet}
+use Rattle.engine.specs.Draws.{Drawn, drawn_of, DrawsSheet}
 use Rattle.engine.specs.MinimumWidth.{Narrowed, narrowing, NarrowsSheet, Narrows}
 use Rattle.engine.specs.inside.Stages.{DrawsHeld}
 use Rattle.engine.specs.inside.Widths.{TotalsAt, TotalHeld, NarrowsHeld, LowestHeld}
@@ -103,17 +103,17 @@ module _ {f a : List ℕ} {c : Counts} (low : List ℕ) (lowest : LowestHeld a c
   low_in = omega (arith, greatest_in S S.width low low_drawing, (proper h).width)
 
   -- it is the minimum width
-  pub narrow_found : {width total : ℕ} {r : Answer} → width ≡ greatest low → TotalsAt S width (result r) → r ≡ answer.Drawn total
+  pub narrow_found : {width total : ℕ} {r : Answer} → width ≡ greatest low → TotalsAt S width (drawn_of r) → r ≡ answer.Drawn total
       → NarrowsSheet S (narrowing (Found (record { width = width; total = total })))
-  unfolding result narrowing
+  unfolding drawn_of narrowing
   narrow_found e t is =
       let t = rw (e, is) at t in
       rw e (record { width_in = low_in; total_at = t; none_narrower = narrower_none S S.width low low_drawing })
 
   -- and there is a drawing at it
-  pub narrow_drawing : {width : ℕ} {r : Answer} {x : Refusal} → width ≡ greatest low → TotalsAt S width (result r)
+  pub narrow_drawing : {width : ℕ} {r : Answer} {x : Refusal} → width ≡ greatest low → TotalsAt S width (drawn_of r)
       → r ≡ answer.Refused x → ⊥
-  unfolding result
+  unfolding drawn_of
   narrow_drawing e t is =
       let t = rw (e, is) at t in
       t.1 low (drawing_narrow S S.width low low_drawing)

@@ -19,7 +19,7 @@ use Rattle.sheet.specs.laws.Sheets.{read_accepted, good_layout}
 use Rattle.drawing.specs.Sheet.{sheet_of}
 use Rattle.drawing.specs.Drawing.{coordinate}
 use Rattle.drawing.specs.laws.Proper.{nodes_are}
-use Rattle.engine.specs.Draws.{Drawn, Draws, result}
+use Rattle.engine.specs.Draws.{Drawn, Draws, drawn_of}
 use Rattle.engine.specs.declared.Answer.{Answer as EngineAnswer}
 use Rattle.engine.specs.declared.Answer.TheVariants as engine
 use Rattle.report.specs.Limits.{max_text}
@@ -87,19 +87,19 @@ drawing_fits bytes p total room h a small t =
 
 -- an answer of the engine, told
 module _ (bytes p old new : List ℕ) {count : ℕ} (drawn : EngineAnswer) (answer : Answer)
-    (room : max_text ≤ length old) (a : Answered (read_sheet bytes) p (result drawn)) (c : count ≡ count_of (outcome answer)) where
+    (room : max_text ≤ length old) (a : Answered (read_sheet bytes) p (drawn_of drawn)) (c : count ≡ count_of (outcome answer)) where
   -- a drawing
   pub told_drawing : {total : ℕ} → drawn ≡ engine.Drawn total → ((v : ℕ) → coordinate p v < list_limit) → total < 2 ^ 32
       → outcome answer ≡ answered (length old) (drawing_text (read_sheet bytes) p total)
       → new ≡ filled (drawing_text (read_sheet bytes) p total) old
-      → Shows (answer_text (read_sheet bytes) p (result drawn)) new count
-  unfolding result answer_text
+      → Shows (answer_text (read_sheet bytes) p (drawn_of drawn)) new count
+  unfolding drawn_of answer_text
   told_drawing {total} is small t e f =
       rw is (shown answer old new (drawing_fits bytes p total (length old) room (rw is at a) small t) e f c)
 
   -- a refusal
   pub told_refusal : {r : Refusal} → drawn ≡ engine.Refused r → r.number < 2 ^ 8 → r.offset < 2 ^ 64
       → outcome answer ≡ answered (length old) (refusal_text r) → new ≡ filled (refusal_text r) old
-      → Shows (answer_text (read_sheet bytes) p (result drawn)) new count
-  unfolding result answer_text
+      → Shows (answer_text (read_sheet bytes) p (drawn_of drawn)) new count
+  unfolding drawn_of answer_text
   told_refusal {r} is n o e f = rw is (shown answer old new (refusal_fits r (length old) room n o) e f c)

@@ -1,5 +1,5 @@
 -- `strip::strip_draw` meets its contract: a word holds the answer of the inner call.
-use Rattle.engine.specs.Draws.{result}
+use Rattle.engine.specs.Draws.{drawn_of}
 use Rattle.strip.specs.laws.Values.{drawing_held}
 use borrow.Author.Rules.{rules}
 use Rattle.strip.proofs.strip_draw.Statement.{statement}
@@ -12,7 +12,7 @@ drawing-word-requires : tie.Need-drawing-word-requires
 drawing-word-requires c κs =
     let start = c.before.before.before.before.before.before.before.before in
     let draw = c.before.before.before.draw in
-    drawing_held start.args.bytes.now _ _ _ _ (result draw.result) draw.ensures
+    drawing_held start.args.bytes.now _ _ _ _ (drawn_of draw.result) draw.ensures
 
 same_length : tie.Need-same-length
 same_length c = search rules
@@ -23,7 +23,7 @@ same-length-2 c = search rules
 returns : tie.Need-returns
 returns c =
     let draw = c.before.before.before.before.draw in
-    (result draw.result, c.drawing-word.ensures, draw.ensures)
+    (drawn_of draw.result, c.drawing-word.ensures, draw.ensures)
 
 pub strip-draw-spec : {M : Type 1} → statement M
 strip-draw-spec =

@@ -11,7 +11,7 @@ use Rattle.std.proofs.Math.ListN.{length, get_or, take, length-map}
 use Rattle.sheet.specs.Limits.{max_nodes, max_edges}
 use Rattle.network.specs.Sums.{below, upto}
 use Rattle.network.specs.Packed.{stride, packs}
-use Rattle.network.specs.laws.PackedBack.{packs_length}
+use Rattle.network.proofs.laws.PackedBack.{packs_length}
 use Rattle.network.specs.laws.Tests.{and_both, at_below, is_true}
 use Rattle.network.specs.laws.Indexed.{upto_in}
 use Rattle.drawing.specs.Sheet.{Layer, Edge, Sheet, sheet_of}

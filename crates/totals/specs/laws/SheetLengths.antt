@@ -6,7 +6,7 @@ use Rattle.std.proofs.Math.Dec.{T}
 use Rattle.std.proofs.lemmas.List.{length-map}
 use Rattle.network.specs.Sums.{sumℕ, sum_to, all}
 use Rattle.network.specs.Packed.{stride, packs}
-use Rattle.network.specs.laws.PackedBack.{packs_length}
+use Rattle.network.proofs.laws.PackedBack.{packs_length}
 use Rattle.network.specs.laws.SumsTo.{sum_to_first}
 use Rattle.drawing.specs.Sheet.{Edge, Sheet}
 use Rattle.drawing.specs.Traces.{traces}

@@ -5,7 +5,7 @@ use lib.IntN.{pos}
 use borrow.Author.Rules.{rules}
 use Rattle.sheet.specs.Limits.{max_nodes}
 use Rattle.arcs.specs.Limits.{max_arcs}
-use Rattle.engine.specs.Draws.{result}
+use Rattle.engine.specs.Draws.{drawn_of}
 use Rattle.engine.proofs.laws.Widths.{holds_at, total_held}
 use Rattle.engine.proofs.widths.total_at.Statement.{statement}
 use Rattle.engine.proofs.widths.total_at.Tie as tie
@@ -35,7 +35,7 @@ returns c =
     let slices = c.before.before.draw-loaded.new.1.1.1 in (
       total_held start.args.width start.requires.1 set-width.ensures (replicate max_nodes 0)
           (replicate max_arcs (pos 0))
-          slices.0 slices.1.0 (result c.before.before.draw-loaded.result) (omega arith) (omega arith)
+          slices.0 slices.1.0 (drawn_of c.before.before.draw-loaded.result) (omega arith) (omega arith)
           c.before.before.draw-loaded.ensures,
       set-width.ensures,
     )

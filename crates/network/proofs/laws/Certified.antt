@@ -7,7 +7,7 @@ use Rattle.network.specs.Network.{Network, Feasible, Least, legal, is_feasible, 
 use Rattle.network.specs.Flows.{rules, bound, certifies}
 use Rattle.network.specs.laws.Integers.{eqZ→eq}
 use Rattle.network.specs.laws.Tests.{and_left, and_right}
-use Rattle.network.specs.laws.Duality.{equal_least}
+use Rattle.network.proofs.laws.Duality.{equal_least}
 
 -- potentials that pass the test are feasible
 pub feasible_is : (N : Network) (p : List ℤ) → T (is_feasible N p) → Feasible N p

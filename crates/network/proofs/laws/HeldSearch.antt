@@ -9,9 +9,9 @@ use Rattle.network.specs.Network.{potential}
 use Rattle.network.specs.laws.Integers.{eqZ→eq}
 use Rattle.network.specs.laws.Tests.{and_left, and_right, Listed, listed_here, listed_later}
 use Rattle.network.specs.laws.SumsTo.{sum_to_lt, sum_to_bound}
-use Rattle.network.specs.laws.Residuals.{Residual}
-use Rattle.network.specs.laws.Held.{Held}
-use Rattle.network.specs.laws.Held.Held.{by_ground, along}
+use Rattle.network.proofs.laws.Residuals.{Residual}
+use Rattle.network.proofs.laws.Held.{Held}
+use Rattle.network.proofs.laws.Held.Held.{by_ground, along}
 
 -- residual arc r is tight at p, and goes from a node of the set H to one outside
 abbrev pub leaves : List ℤ → (ℕ → Bool) → Residual → Bool

@@ -10,9 +10,9 @@ use Rattle.network.specs.Network.{Network, potential, reached, past_kink, Leftmo
 use Rattle.network.specs.Flows.{Flow, flows, rules, complementary}
 use Rattle.network.specs.laws.Integers.{≤ℤ_trans, ≤ℤ_of_eq, +ℤ_mono}
 use Rattle.network.specs.laws.Tests.{Listed, listed_here, listed_first, listed_second, listed_flat}
-use Rattle.network.specs.laws.Duality.{tight_leftmost}
-use Rattle.network.specs.laws.Residuals.{Residual, meets, unless, back, forth, residuals_of, residuals, residuals_met}
-use Rattle.network.specs.laws.Residuals.{kink_back, kink_forth}
+use Rattle.network.proofs.laws.Duality.{tight_leftmost}
+use Rattle.network.proofs.laws.Residuals.{Residual, meets, unless, back, forth, residuals_of, residuals, residuals_met}
+use Rattle.network.proofs.laws.Residuals.{kink_back, kink_forth}
 
 -- node v is held: it is ground, or a held node u holds it over a tight residual arc
 pub data Held (p : List ℤ) (rs : List Residual) : ℕ → Type 0 where

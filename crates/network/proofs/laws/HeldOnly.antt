@@ -10,10 +10,10 @@ use Rattle.network.specs.Flows.{rules, complementary}
 use Rattle.network.specs.laws.IntegerParts.{le_parts, parts_le, parts_eq, sum_parts, minus_parts}
 use Rattle.network.specs.laws.Integers.{eq→eqZ}
 use Rattle.network.specs.laws.Tests.{is_true, not_not, below_at, at_below, all_map₂}
-use Rattle.network.specs.laws.Duality.{tight_feasible, tight_equal}
-use Rattle.network.specs.laws.Residuals.{Residual, meets, residuals, residuals_met}
-use Rattle.network.specs.laws.Held.{Held, held_leftmost}
-use Rattle.network.specs.laws.HeldSearch.{leaves, held_set, Reached, held_reached}
+use Rattle.network.proofs.laws.Duality.{tight_feasible, tight_equal}
+use Rattle.network.proofs.laws.Residuals.{Residual, meets, residuals, residuals_met}
+use Rattle.network.proofs.laws.Held.{Held, held_leftmost}
+use Rattle.network.proofs.laws.HeldSearch.{leaves, held_set, Reached, held_reached}
 
 -- each node outside the set H moves left by 1
 abbrev lower : (ℕ → Bool) → List ℤ → List ℤ

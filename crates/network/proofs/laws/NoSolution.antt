@@ -8,7 +8,7 @@ use Rattle.network.specs.Flows.{rules, bound}
 use Rattle.network.specs.laws.Tests.{and_left, and_right, all_ext, all_image}
 use Rattle.network.specs.laws.Sums.{sum_null, sum_image}
 use Rattle.network.specs.laws.ArcSlack.{costless}
-use Rattle.network.specs.laws.Duality.{weak_duality}
+use Rattle.network.proofs.laws.Duality.{weak_duality}
 
 -- 0 in place of a finite limit
 abbrev pub hard_limit : Limit → Limit
