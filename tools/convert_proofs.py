@@ -58,6 +58,7 @@ class Function:
     def __init__(self, data, sigs, name):
         self.data, self.sigs, self.name = data, sigs, name
         self.places = {p[0]: p for p in data["places"]}
+        self.index = {p[0]: i for i, p in enumerate(data["places"])}
         self.said = []
 
     def chain(self, place):
@@ -89,6 +90,10 @@ class Function:
         if not parts:
             return at, None
         field, rest = parts[0], parts[1:]
+        for old, new in self.data["args"]:
+            if f".{field} .{rest[0] if rest else ''}" == old:
+                rest = [new.split(".")[-1]] + rest[1:]
+                parts = [field] + rest
         if field in ("args", "ranges", "type_inv"):
             return None, "c." + ".".join(parts)
         if field in ("requires", "pre"):
@@ -107,7 +112,21 @@ class Function:
         if not found:
             self.said.append(f"no step {field} (at {at} of {[p[2] for p in chain]})")
             return None, ".".join(["c"] + parts)
-        return None, ".".join(["c", found[2][1]] + self.end(found, rest))
+        arm = self.arm(chain, plain(found[2][0]), rest)
+        return None, arm or ".".join(["c", found[2][1]] + self.end(found, rest))
+
+    def arm(self, chain, step, rest):
+        """A fact of a step of an arm, or of a slice's type, by the name that the arm or the slice has."""
+        for p in chain:
+            at = self.index[p[0]]
+            for field, own, parts in (self.data["arms"][at] or [None, 0, []])[2]:
+                if parts and plain(own) == step and rest[: len(parts)] == parts:
+                    return ".".join(["c", self.data["arms"][at][0], field] + rest[len(parts):])
+        for p in chain[:1]:
+            for name, own in self.data["typed"][self.index[p[0]]]:
+                if plain(own) == step and rest[:1] == ["given"]:
+                    return ".".join(["c", "type_inv", name] + rest[1:])
+        return None
 
     def turn(self, body, place):
         chain = self.chain(place)
@@ -122,6 +141,9 @@ class Function:
                 # the end of a step by itself
                 step = next((p for p in chain if "c." + p[2][1] == text), None)
                 if step:
+                    arm = self.arm(chain, plain(step[2][0]), parts)
+                    if arm:
+                        return None, arm
                     parts = self.end(step, parts)
                 m = re.match(r"c\.requires$", text)
                 names = (self.data.get("pre") or {}).get("fields") or []
@@ -153,8 +175,13 @@ class Function:
             rest = rest[m.end():]
         out = re.sub(r",\s*c\.ranges(?=\s*[,)])", "", out)
         # a test of `not x` is now a fact about x
-        out = re.sub(r"\(not-(?:true|false) [^\s()]+ ([^\s()]+)\)", r"\1", out)
-        out = re.sub(r"\bnot-(?:true|false) [^\s()]+ ([^\s()]+)", r"\1", out)
+        calls = {p[2][1] for p in chain if p[3]}
+        def fact(m):
+            test = re.search(r"\.if-not-([\w-]+)\.", m.group(1))
+            return m.group(1) if test and test.group(1) in calls else m.group(0)
+        out = re.sub(r"\(not-(?:true|false)\s+[^\s()]+\s+([^\s()]+)\)", fact, out)
+        out = re.sub(r"\bnot-(?:true|false)\s+[^\s()]+\s+([^\s()]+)", fact, out)
+        out = re.sub(r"\(omega \(arith, c\.known_told[\w-]*\.given\)\)", "(omega arith)", out)
         return out
 
 
@@ -216,6 +243,8 @@ def record_of(body, names):
     parts = split_tuple(end)
     if parts and len(parts) > len(names) and len(names) > 1:
         parts = parts[: len(names) - 1] + ["(" + ", ".join(parts[len(names) - 1:]) + ")"]
+    if not parts and re.match(r"c\.\S+\.(ensures|requires)$", end):
+        parts = [end + "." + n for n in names]
     if not parts and not end.startswith(TACTICS):
         lets += "let both = " + end + " in\n"
         parts = ["both" + ".1" * i + (".0" if i < len(names) - 1 else "") for i in range(len(names))]
@@ -243,11 +272,15 @@ def convert(crate, folder, data, sigs, fn):
     needs = {goal_key(n[0]): (n[1], a[0]) for n, a in zip(data["needs"], data["asked_at"])}
     old_of = {n[1]: n[0] for n in data["needs"]}
     loops = {plain(l[0][0]): (l[0][1], l[1], ch) for l, ch in zip(data["loops"], data["changed"])}
-    invariants, answers, helpers = [], [], []
+    invariants, answers, helpers, pending = [], [], [], []
     for chunk in chunks[1:]:
         lines = chunk.splitlines()
         remark = [l for l in lines if l.startswith("--")]
         lines = [l for l in lines if not l.startswith("--")]
+        if not lines:
+            pending = remark
+            continue
+        remark, pending = pending + remark, []
         sig = lines[0]
         m = re.match(r"(?:abbrev )?(?:pub )?(\S+) : (.*)", sig)
         if not m:

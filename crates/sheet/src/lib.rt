@@ -66,7 +66,7 @@ pub enum Location {
 }
 
 // What is read or written.
-#[derive(Drop)]
+#[derive(Clone, Copy)]
 enum Format {
     Sheet,
     Coordinates,
@@ -74,7 +74,7 @@ enum Format {
 
 // Where the next number stands: in the bytes (encoded) or in the number list, at a position; the numbers before it take
 // count elements of the other one.
-#[derive(Drop)]
+#[derive(Clone, Copy)]
 struct Cursor {
     encoded: bool,
     at: usize,
@@ -82,7 +82,7 @@ struct Cursor {
 }
 
 // What a number may be: from low to high. Bytes hold what it lies above the base.
-#[derive(Drop)]
+#[derive(Clone, Copy)]
 struct Range {
     base: u32,
     low: u32,
@@ -92,7 +92,7 @@ struct Range {
 // How far a coordinate file is read: whether its layers are counted, and if they are, how many are to come, how many nodes of
 // this layer are to come, how many nodes may yet be counted; the next node stands at low or right of it, and its bytes hold
 // what it lies above the base.
-#[derive(Drop)]
+#[derive(Clone, Copy)]
 struct Awaited {
     begun: bool,
     layers: u32,

@@ -67,6 +67,7 @@ module _ {format : Format} {bytes : List ℕ} {count : ℕ} {old new : List ℕ}
     where
       go : {last : ℕ} (rest : List ℕ) → Chain (in_bytes bytes) done at rest last → Left old 0 p.wanted new i rest → ⊥
       go [] none left = omega (arith, left.ends, p.counted)
+      go {last = last} (_ ∷ _) x4 left = elim x4 [ ]
 
 -- the next number, above a base
 module _ {format : Format} {bytes : List ℕ} {count : ℕ} {old new : List ℕ} {at i base : ℕ} {rule : Rule} {next : ℕ → Grammar}
@@ -79,6 +80,7 @@ module _ {format : Format} {bytes : List ℕ} {count : ℕ} {old new : List ℕ}
     where
       go : (rest : List ℕ) → Chain (in_bytes bytes) (number (above base) rule next) at rest p.last
           → Left old 0 p.wanted new i rest → (rule n ≡ 0) × FillLeft format bytes count old (set new i n) after (i + 1) (next n)
+      go [] x'' left = elim x'' [ ]
       go (m ∷ ms) (more {after = q} ok there chain) left =
           let f : value m q ≡ value n after = sym there ∙ sym is_found ∙ ap item e in
           let is-n : m ≡ n = cc in
@@ -101,6 +103,7 @@ module _ {format : Format} {bytes : List ℕ} {count : ℕ} {old new : List ℕ}
   fill_never {r} e = go p.rest p.chain
     where
       go : (rest : List ℕ) → Chain (in_bytes bytes) (number (above base) rule next) at rest p.last → ⊥
+      go [] x' = elim x' [ ]
       go (m ∷ ms) (more {after = q} ok there chain) =
           let f : Item.refused r ≡ value m q = sym (ap item e) ∙ is_found ∙ there in
           let z : ◌≡◌ {A = ℕ} 0 1 = cc in omega arith

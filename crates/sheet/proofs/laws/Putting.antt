@@ -73,6 +73,7 @@ module _ {numbers old whole new : List ℕ} {at i : ℕ} {grammar : Grammar} (p 
     where
       go : (ns : List ℕ) → Accepts done ns → length ns ≡ length numbers - i → ⊥
       go [] nil s = omega arith
+      go (_ ∷ _) x4 s = elim x4 [ ]
 
 -- the next number, above a base
 module _ {numbers old whole new : List ℕ} {at i base : ℕ} {rule : Rule} {next : ℕ → Grammar}
