@@ -73,10 +73,14 @@ class Function:
         callee = step[3]
         if callee and rest and callee in self.sigs:
             params, clauses = self.sigs[callee]
-            if rest[0] == "new" and len(rest) > 1 and rest[1].isdigit():
-                lent = [n for n, t in params if t.startswith("&mut")]
-                if int(rest[1]) < len(lent):
-                    rest = ["new", lent[int(rest[1])]] + rest[2:]
+            if rest[0] in ("new", "auto", "last", "kept") and len(rest) > 1 and rest[1].isdigit():
+                # the old records were pairs in pairs, one for each parameter
+                k = 1
+                while k < len(rest) and rest[k] == "1":
+                    k += 1
+                if k < len(rest) and rest[k] == "0" and k - 1 < len(params):
+                    field = {"last": "new", "kept": "auto"}.get(rest[0], rest[0])
+                    rest = [field, params[k - 1][0]] + rest[k + 1:]
             elif rest[0] in ("ensures", "requires") and len(rest) > 1 and rest[1].isdigit():
                 names = clauses[rest[0]]
                 if len(names) > 1 and int(rest[1]) < len(names):
@@ -101,7 +105,7 @@ class Function:
             if len(names) > 1 and rest and rest[0].isdigit() and int(rest[0]) < len(names):
                 rest = [names[int(rest[0])]] + rest[1:]
             return None, ".".join(["c", "requires"] + rest)
-        if field in ("good", "well-formed", "well_formed"):
+        if field in ("good", "well-formed") or field == "well_formed" and not any(plain(p[2][0]) == "well-formed" for p in chain):
             return None, "c.ranges"
         found = chain[at] if at < len(chain) and plain(chain[at][2][0]) == plain(field) else None
         if not found:
@@ -113,7 +117,19 @@ class Function:
             self.said.append(f"no step {field} (at {at} of {[p[2] for p in chain]})")
             return None, ".".join(["c"] + parts)
         arm = self.arm(chain, plain(found[2][0]), rest)
-        return None, arm or ".".join(["c", found[2][1]] + self.end(found, rest))
+        if arm:
+            return None, arm
+        rest = self.end(found, rest)
+        new = found[2][1]
+        if rest and rest[0] in ("taken", "left") and new.startswith(("if-", "loop-")):
+            rest = [{"taken": "true", "left": "false"}[rest[0]]] + rest[1:]
+        m = re.match(r"enum_told", new)
+        if m and rest[:2] == ["given", "1"]:
+            # that a value is the variant of an arm
+            it = next((p[2][1] for p in chain if p[2][1].startswith("in-")), None)
+            if it:
+                new, rest = it, ["is"] + rest[2:]
+        return None, ".".join(["c", new] + rest)
 
     def arm(self, chain, step, rest):
         """A fact of a step of an arm, or of a slice's type, by the name that the arm or the slice has."""
@@ -238,6 +254,11 @@ def led(body):
 TACTICS = ("search", "omega", "grind", "rw", "simp", "cc", "record", "elim", "absurd", "subst", "λ")
 
 
+def joined(text):
+    """A short body stands on the line of its name."""
+    return re.sub(r"(?m)^((?:\S+)(?: \S+)* =)\n    (\S.*)(?=\n\n|\n?\Z)", lambda m: m.group(0) if len(m.group(1) + m.group(2)) > 110 else m.group(1) + " " + m.group(2), text)
+
+
 def record_of(body, names):
     lets, end = led(body)
     parts = split_tuple(end)
@@ -331,15 +352,24 @@ def convert(crate, folder, data, sigs, fn):
         if len(asked) > 1:
             turned = record_of(turned, asked) or turned
         answers.append("\n".join(remark + [f"pub {new} : goal.{new}"] + unfold + [f"{new} {' '.join(args)} =\n    {turned}"]))
-    said = []
+    # what an answer cites stands above it
+    names = [re.search(r"(?m)^pub (\S+) :", a).group(1) for a in answers]
+    cites = [{o for o in names if o != n and re.search(r"(?<![\w.'-])" + re.escape(o) + r"(?![\w'-])", "\n".join(l for l in a.splitlines() if not l.startswith("--")))} for n, a in zip(names, answers)]
+    ordered, done, todo = [], set(), list(range(len(answers)))
+    while todo:
+        i = next((i for i in todo if cites[i] <= done), todo[0])
+        todo.remove(i)
+        done.add(names[i])
+        ordered.append(answers[i])
+    answers = ordered
     if helpers and not answers:
         f.said.append("helpers without answers")
     if invariants:
         with open(os.path.join(folder, "Invariants.antt"), "w", encoding="utf-8") as out:
-            out.write("\n".join(comment + used(uses, invariants) + [f"use {base}.Given as goal", ""]) + "\n" + "\n\n".join(invariants) + "\n")
+            out.write("\n".join(comment + used(uses, invariants) + [f"use {base}.Given as goal", ""]) + "\n" + joined("\n\n".join(invariants)) + "\n")
     if answers:
         with open(os.path.join(folder, "Answers.antt"), "w", encoding="utf-8") as out:
-            out.write("\n".join(comment + used(uses, answers + helpers) + [f"use {base}.Goals as goal", ""]) + "\n" + "\n\n".join(helpers + answers) + "\n")
+            out.write("\n".join(comment + used(uses, answers + helpers) + [f"use {base}.Goals as goal", ""]) + "\n" + joined("\n\n".join(helpers + answers)) + "\n")
     os.remove(os.path.join(folder, "Proof.antt"))
     for s in f.said:
         print(f"{folder}: {s}")
