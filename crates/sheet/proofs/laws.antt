@@ -11,6 +11,7 @@ pub mod FillingNumbers
 pub mod Putting
 pub mod PlainNumbers
 pub mod Awaited
+pub mod Coordinates
 pub mod CoordinatePasses
 pub mod Examples
 pub mod CoordinateExamples

@@ -4,4 +4,3 @@ pub mod Refusals
 pub mod Sheets
 pub mod Nodes
 pub mod ReadInto
-pub mod Coordinates

@@ -26,6 +26,7 @@ alone e es t = none_parallel e es (and_left (not (any_parallel e es)) (apart es)
 
 -- edges that pass the test are apart
 pub test_apart : (es : List Edge) → T (apart es) → Apart es
+test_apart [] t i j a b x4 _ s = elim x4 [ ]
 test_apart (e ∷ es) t zero zero a b here here s = refl
 test_apart (e ∷ es) t zero (suc j) a b here (later q) s = absurd (alone e es t j b q (ends_back s))
 test_apart (e ∷ es) t (suc i) zero a b (later p) here s = absurd (alone e es t i a p s)

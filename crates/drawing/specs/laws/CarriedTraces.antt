@@ -22,6 +22,7 @@ parallel_same e x t = let same = parallel_ends e x t in ends_back (record { uppe
 
 -- where no edge is parallel to e, none has its ends
 pub none_parallel : (e : Edge) (es : List Edge) → T (not (any_parallel e es)) → NoneOf es e
+none_parallel e [] t j y x4 s = elim x4 [ ]
 none_parallel e (x ∷ es) t zero y here s =
     not_both (parallel e x || any_parallel e es) (or_left (parallel e x) (any_parallel e es) (same_parallel e x s)) t
 none_parallel e (x ∷ es) t (suc j) y (later a) s =

@@ -21,7 +21,7 @@ use Rattle.sheet.specs.Grammar.{sheet}
 use Rattle.sheet.specs.Coordinates.{right_nodes, layer_coordinates, coordinates}
 use Rattle.sheet.specs.Reading.{read_coordinates, write_coordinates}
 use Rattle.sheet.specs.laws.Sheets.{good_layout}
-use Rattle.sheet.specs.laws.Coordinates.{accepted_written, read_written}
+use Rattle.sheet.proofs.laws.Coordinates.{accepted_written, read_written}
 use Rattle.drawing.specs.Sheet.{Pair, Layer, pairs_of, layers_of, sheet_of}
 use Rattle.drawing.specs.Drawing.{coordinate, separated, Drawing}
 use Rattle.drawing.specs.CoordinateFile.{layer_places, file_numbers, file_bytes}

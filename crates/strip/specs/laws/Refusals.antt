@@ -10,7 +10,7 @@ use Rattle.leb128.specs.declared.Refusal.{Refusal}
 use Rattle.leb128.specs.laws.RefusalsGiven.{answer_refused}
 use Rattle.sheet.specs.Reading.{read_sheet, read_coordinates, write_coordinates}
 use Rattle.sheet.specs.Refusals.{Outside, ReaderRefusal, WriterRefusal}
-use Rattle.sheet.specs.laws.Coordinates.{reader_refusals, writer_refusals}
+use Rattle.sheet.proofs.laws.Coordinates.{reader_refusals, writer_refusals}
 use Rattle.engine.specs.Refusals.{no_drawing, no_width, WidthRefusal}
 use Rattle.engine.specs.Refusals.WidthRefusal.{read, none}
 use Rattle.engine.specs.Draws.{Drawn, Draws}

@@ -13,7 +13,7 @@ use Rattle.sheet.specs.Reading.{read_sheet, write_sheet, read_coordinates, write
 use Rattle.sheet.specs.Refusals.{NumberTo, RefusalTo}
 use Rattle.sheet.specs.laws.Refusals.{number_given, outside_given, reader_given, writer_given}
 use Rattle.sheet.specs.laws.Sheets as sheets
-use Rattle.sheet.specs.laws.Coordinates as files
+use Rattle.sheet.proofs.laws.Coordinates as files
 use Rattle.checker.specs.Verdict.{check_answer}
 use Rattle.checker.specs.laws.Refusals.{check_refusals}
 use Rattle.engine.specs.Draws.{Drawn, Draws}
