@@ -87,13 +87,14 @@ class Function:
         callee = step[3]
         if callee and rest and callee in self.sigs:
             params, clauses = self.sigs[callee]
-            if rest[0] in ("new", "auto", "kept", "last") and len(rest) > 1 and rest[1].isdigit():
-                refs = [n for n, t in params if t.startswith("&")]
-                at = 1
-                while at < len(rest) and rest[at] == "1":
-                    at += 1
-                if at < len(rest) and rest[at] == "0" and at - 1 < len(refs):
-                    rest = [{"kept": "auto", "last": "new"}.get(rest[0], rest[0]), refs[at - 1]] + rest[at + 1:]
+            if rest[0] in ("new", "auto", "last", "kept") and len(rest) > 1 and rest[1].isdigit():
+                # the old records were pairs in pairs, one for each parameter
+                k = 1
+                while k < len(rest) and rest[k] == "1":
+                    k += 1
+                if k < len(rest) and rest[k] == "0" and k - 1 < len(params):
+                    field = {"last": "new", "kept": "auto"}.get(rest[0], rest[0])
+                    rest = [field, params[k - 1][0]] + rest[k + 1:]
             elif rest[0] in ("ensures", "requires") and len(rest) > 1 and rest[1].isdigit():
                 names = clauses[rest[0]]
                 if len(names) > 1:
@@ -128,7 +129,17 @@ class Function:
         if not found:
             self.said.append(f"no step {field} (at {at} of {[p[2] for p in chain]})")
             return None, ".".join(["c"] + parts)
-        return None, ".".join(["c", found[2][1]] + self.end(found, rest))
+        rest = self.end(found, rest)
+        new = found[2][1]
+        if rest and rest[0] in ("taken", "left") and new.startswith(("if-", "loop-")):
+            rest = [{"taken": "true", "left": "false"}[rest[0]]] + rest[1:]
+        m = re.match(r"enum_told", new)
+        if m and rest[:2] == ["given", "1"]:
+            # that a value is the variant of an arm
+            arm = next((p[2][1] for p in chain if p[2][1].startswith("in-")), None)
+            if arm:
+                new, rest = arm, ["is"] + rest[2:]
+        return None, ".".join(["c", new] + rest)
 
     def turn(self, body, place):
         chain = self.chain(place)
@@ -232,6 +243,11 @@ def led(body):
 TACTICS = ("search", "omega", "grind", "rw", "simp", "cc", "record", "elim", "absurd", "subst", "λ")
 
 
+def joined(text):
+    """A short body stands on the line of its name."""
+    return re.sub(r"(?m)^((?:\S+)(?: \S+)* =)\n    (\S.*)(?=\n\n|\n?\Z)", lambda m: m.group(0) if len(m.group(1) + m.group(2)) > 110 else m.group(1) + " " + m.group(2), text)
+
+
 def record_of(body, names):
     lets, end = led(body)
     parts = split_tuple(end)
@@ -321,15 +337,24 @@ def convert(crate, folder, data, sigs, fn):
         if len(asked) > 1:
             turned = record_of(turned, asked) or turned
         answers.append("\n".join(remark + [f"pub {new} : goal.{new}"] + unfold + [f"{new} {' '.join(args)} =\n    {turned}"]))
-    said = []
+    # what an answer cites stands above it
+    names = [re.search(r"(?m)^pub (\S+) :", a).group(1) for a in answers]
+    cites = [{o for o in names if o != n and re.search(r"(?<![\w.'-])" + re.escape(o) + r"(?![\w'-])", "\n".join(l for l in a.splitlines() if not l.startswith("--")))} for n, a in zip(names, answers)]
+    ordered, done, todo = [], set(), list(range(len(answers)))
+    while todo:
+        i = next((i for i in todo if cites[i] <= done), todo[0])
+        todo.remove(i)
+        done.add(names[i])
+        ordered.append(answers[i])
+    answers = ordered
     if helpers and not answers:
         f.said.append("helpers without answers")
     if invariants:
         with open(os.path.join(folder, "Invariants.antt"), "w", encoding="utf-8") as out:
-            out.write("\n".join(comment + used(uses, invariants) + [f"use {base}.Given as goal", ""]) + "\n" + "\n\n".join(invariants) + "\n")
+            out.write("\n".join(comment + used(uses, invariants) + [f"use {base}.Given as goal", ""]) + "\n" + joined("\n\n".join(invariants)) + "\n")
     if answers:
         with open(os.path.join(folder, "Answers.antt"), "w", encoding="utf-8") as out:
-            out.write("\n".join(comment + used(uses, answers + helpers) + [f"use {base}.Goals as goal", ""]) + "\n" + "\n\n".join(helpers + answers) + "\n")
+            out.write("\n".join(comment + used(uses, answers + helpers) + [f"use {base}.Goals as goal", ""]) + "\n" + joined("\n\n".join(helpers + answers)) + "\n")
     os.remove(os.path.join(folder, "Proof.antt"))
     for s in f.said:
         print(f"{folder}: {s}")

@@ -1,5 +1,5 @@
 -- The constraints of one arc, and of all arcs in one pass: each arc takes `Passing` one further, in whichever direction.
-use Rattle.network.specs.Net.{at, Net, arcs, tail, head, kink, low, high}
+use Rattle.network.specs.Net.{Net, arcs, tail, head, kink, low, high}
 use Rattle.difference.specs.inside.Constraints.{MetHigh, MetLow, Met, AllMet, Ready, Relaxing}
 use Rattle.difference.specs.inside.Steps.{RelaxMeans, Stepped, join}
 use Rattle.difference.specs.declared.Found.{Found}

@@ -19,11 +19,14 @@ module _ {N : Net} {n : ℕ} (wf : WellFormed N n) where
   pub feasible_solution : (q : List ℕ) → Feasible (meant N n) (integers q) → Solution N n (at q)
   feasible_solution q f =
       record {
-        ground = get_or-eq_default q 0 (omega (arith, f.size, length-map q pos));
+        ground = ground;
         meets =
             λ i l. let m = legal_meets N q i (upto_all (legal (integers q)) (arcs N) (arc_at N.list) f.legals i l) in
             (m.not_right, m.not_left);
       }
+    where
+      ground : at q (n - 1) ≡ 0
+      ground = get_or-eq_default q 0 (omega (arith, f.size, length-map q pos))
 
   -- values that meet the constraints are feasible potentials
   meets_feasible : (p : List ℕ) → length p ≡ n - 1 → AllMet N (at p) (at p) → Feasible (meant N n) (integers p)

@@ -1,0 +1,11 @@
+-- `guess::labels::label_all` ends and keeps lengths: the count of nodes left falls.
+use lib.ListN.{length}
+use mathlib.Core.Path.{◌≡◌}
+use Prim.Native.Nat.{◌-◌}
+use Rattle.guess.proofs.labels.label_all.Given as goal
+
+abbrev pub invariant-loop-k : goal.invariant-loop-k
+invariant-loop-k l = (length l.nodes ≡ length l.initial.nodes) × (length l.room ≡ length l.initial.room)
+
+abbrev pub decreases-loop-k : goal.decreases-loop-k
+decreases-loop-k l = l.count - l.k
