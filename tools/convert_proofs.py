@@ -14,7 +14,7 @@ import subprocess
 import sys
 
 PATH = re.compile(r"(?<![\w.'₀-₉-])([A-Za-z][\w'₀-₉-]*)((?:\.[\w'₀-₉-]+)*)")
-LET = re.compile(r"let ([A-Za-z][\w'₀-₉-]*) = ([A-Za-z][\w'₀-₉-]*(?:\.[\w'₀-₉-]+)*) in\s*")
+LET = re.compile(r"let ([A-Za-z][\w'₀-₉-]*) =\s+([A-Za-z][\w'₀-₉-]*(?:\.[\w'₀-₉-]+)*)\s+in\b\s*")
 TRIVIAL = {"search rules", "search needs"}
 
 
@@ -23,7 +23,7 @@ def plain(name):
 
 
 def goal_key(name):
-    return re.sub(r"^overflow-", "", plain(name))
+    return re.sub(r"^slice-bounds-", "part-", re.sub(r"^overflow-", "", plain(name)))
 
 
 def read(path):
@@ -54,6 +54,17 @@ def signatures(crate):
     return out
 
 
+def clause(names, parts):
+    """The name of the clause that old numbers stand for, and what follows it: clauses were nested to the right."""
+    names = list(names)
+    while len(names) > 1 and parts and parts[0] in ("0", "1"):
+        at, parts = parts[0], parts[1:]
+        if at == "0":
+            return [names[0]] + parts
+        names = names[1:]
+    return [names[0]] + parts if len(names) == 1 else None
+
+
 class Function:
     def __init__(self, data, sigs, name):
         self.data, self.sigs, self.name = data, sigs, name
@@ -70,6 +81,10 @@ class Function:
 
     def end(self, step, rest):
         """The projections behind a step, in today's names."""
+        if rest and rest[0] == "inv":
+            rest = ["invariant"] + rest[1:]
+        if rest and rest[0] in ("taken", "left"):
+            rest = [{"taken": "true", "left": "false"}[rest[0]]] + rest[1:]
         callee = step[3]
         if callee and rest and callee in self.sigs:
             params, clauses = self.sigs[callee]
@@ -83,8 +98,8 @@ class Function:
                     rest = [field, params[k - 1][0]] + rest[k + 1:]
             elif rest[0] in ("ensures", "requires") and len(rest) > 1 and rest[1].isdigit():
                 names = clauses[rest[0]]
-                if len(names) > 1 and int(rest[1]) < len(names):
-                    rest = [rest[0], names[int(rest[1])]] + rest[2:]
+                if len(names) > 1:
+                    rest = [rest[0]] + (clause(names, rest[1:]) or rest[1:])
         return rest
 
     def project(self, at, chain, parts):
@@ -102,10 +117,10 @@ class Function:
             return None, "c." + ".".join(parts)
         if field in ("requires", "pre"):
             names = (self.data.get("pre") or {}).get("fields") or []
-            if len(names) > 1 and rest and rest[0].isdigit() and int(rest[0]) < len(names):
-                rest = [names[int(rest[0])]] + rest[1:]
+            if len(names) > 1 and rest and rest[0].isdigit():
+                rest = clause(names, rest) or rest
             return None, ".".join(["c", "requires"] + rest)
-        if field in ("good", "well-formed") or field == "well_formed" and not any(plain(p[2][0]) == "well-formed" for p in chain):
+        if field in ("good", "well-formed", "well_formed") and not any(plain(p[2][0]).rstrip("0123456789") == plain(field) for p in chain):
             return None, "c.ranges"
         found = chain[at] if at < len(chain) and plain(chain[at][2][0]) == plain(field) else None
         if not found:
@@ -113,6 +128,9 @@ class Function:
                 if plain(p[2][0]) == plain(field):
                     found = p
                     break
+        if not found:
+            # a step of which the name is taken has a number now
+            found = next((p for p in chain if plain(p[2][0]).rstrip("0123456789") == plain(field)), None)
         if not found:
             self.said.append(f"no step {field} (at {at} of {[p[2] for p in chain]})")
             return None, ".".join(["c"] + parts)
@@ -144,6 +162,25 @@ class Function:
                     return ".".join(["c", "type_inv", name] + rest[1:])
         return None
 
+    def whole(self, text, before, chain):
+        """The clauses of a call, or of the function, that are handed on as one: a tuple of them, unless to a tactic."""
+        names = []
+        if text == "c.requires":
+            names = (self.data.get("pre") or {}).get("fields") or []
+        elif text.endswith(".ensures"):
+            step = next((p for p in chain if "c." + p[2][1] + ".ensures" == text), None)
+            if step and step[3] in self.sigs:
+                names = self.sigs[step[3]][1]["ensures"]
+        if len(names) < 2:
+            return text
+        calls = [m.start() for m in re.finditer(r"\b(?:omega|grind|search|cc|simp|rw) \(", before)]
+        if any(before[i:].count("(") > before[i:].count(")") for i in calls):
+            return text
+        out = f"{text}.{names[-1]}"
+        for n in reversed(names[:-1]):
+            out = f"({text}.{n}, {out})"
+        return out
+
     def turn(self, body, place):
         chain = self.chain(place)
         alias = {"c": (0, None)}
@@ -163,16 +200,16 @@ class Function:
                     parts = self.end(step, parts)
                 m = re.match(r"c\.requires$", text)
                 names = (self.data.get("pre") or {}).get("fields") or []
-                if m and len(names) > 1 and parts[0].isdigit() and int(parts[0]) < len(names):
-                    parts[0] = names[int(parts[0])]
+                if m and len(names) > 1 and parts[0].isdigit():
+                    parts = clause(names, parts) or parts
             return None, ".".join([text] + parts)
 
         def put(m):
             root, tail = m.group(1), m.group(2)
-            if root not in alias:
+            if root not in alias or not tail and re.match(r" = ", m.string[m.end():]):
                 return m.group(0)
             at, text = path(root, tail)
-            return text if text is not None else "c"
+            return self.whole(text, m.string[: m.start()], chain) if text is not None else "c"
 
         out, rest = "", body
         while True:
@@ -262,6 +299,8 @@ def joined(text):
 def record_of(body, names):
     lets, end = led(body)
     parts = split_tuple(end)
+    while parts and len(parts) < len(names) and split_tuple(parts[-1]):
+        parts = parts[:-1] + split_tuple(parts[-1])
     if parts and len(parts) > len(names) and len(names) > 1:
         parts = parts[: len(names) - 1] + ["(" + ", ".join(parts[len(names) - 1:]) + ")"]
     if not parts and re.match(r"c\.\S+\.(ensures|requires)$", end):

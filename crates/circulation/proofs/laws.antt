@@ -5,6 +5,7 @@ pub mod Charges
 pub mod Columns
 pub mod Counts
 pub mod Cuts
+pub mod Determined
 pub mod Finishes
 pub mod Floods
 pub mod Flows
@@ -12,6 +13,7 @@ pub mod Growing
 pub mod LeastStep
 pub mod Leftmost
 pub mod Moves
+pub mod Optimal
 pub mod Parts
 pub mod Reaching
 pub mod Searches

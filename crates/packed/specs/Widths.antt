@@ -2,7 +2,7 @@
 use Rattle.std.specs.Prelude.{ℕ, zero, suc, ◌+◌, ◌/◌, cond, List, ◌++◌, eqb, length, get_or, set, take, drop}
 use Rattle.network.specs.Packed.{tail_at, kink_at, stride, kink_zero}
 
-module _ (ground width : ℕ) where
+module _ (ground : ℕ) (width : ℕ) where
   -- the stored kink of an arc by its tail: the width where it leaves ground, else what it was
   abbrev pub widened_kink : ℕ → ℕ → ℕ
   widened_kink tail kink = cond (eqb tail ground) (kink_zero + width) kink

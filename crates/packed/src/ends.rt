@@ -50,6 +50,7 @@ fn field(arcs: &[u32], i: usize, at: usize) -> u32
 }
 
 // The weight that a high limit stands for.
+#[tactic(auto, using(crate::proofs::laws::Ends::weight_none, crate::proofs::laws::Ends::weight_some))]
 fn weight(high: u32) -> u32
     ensures { result ≡ weight_of high }
 {

@@ -1,6 +1,6 @@
 -- What a search that has reached some nodes allows: an arc that crosses, and the step over the nearest one.
 use Rattle.network.specs.laws.SumsTo.{sum_to_ge}
-use Rattle.network.specs.Net.{at, Net, arcs, tail, head, low}
+use Rattle.network.specs.Net.{at, Net, arcs, tail, head}
 use Rattle.circulation.specs.inside.Slackness.{Slack}
 use Rattle.circulation.specs.inside.Search.{Crossing, step, lifted, Grown, unreached}
 use Rattle.circulation.specs.inside.Steps.{Nearest}

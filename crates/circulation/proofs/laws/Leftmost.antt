@@ -6,7 +6,7 @@ use Rattle.circulation.specs.inside.Steps.{Flooded}
 use Rattle.circulation.specs.inside.Finish.{Settled}
 use Rattle.circulation.specs.inside.Optimal.{Support}
 use Rattle.circulation.specs.laws.Columns.{column_length}
-use Rattle.circulation.specs.laws.Optimal.{settled_solution}
+use Rattle.circulation.proofs.laws.Optimal.{settled_solution}
 use Rattle.circulation.specs.inside.Slackness.{Balanced}
 use Rattle.network.specs.WellFormed.{WellFormed}
 use Rattle.circulation.specs.inside.Search.{Tree, Link}

@@ -13,7 +13,7 @@ use Rattle.circulation.specs.inside.Slackness.{Slack, Balanced, inflow, outflow}
 use Rattle.circulation.specs.inside.Stores.{Apart}
 use Rattle.circulation.specs.inside.Finish.{Grounded, Settled, Zeroed}
 use Rattle.circulation.specs.inside.Optimal.{Optimal}
-use Rattle.circulation.specs.laws.Optimal.{settled_solution}
+use Rattle.circulation.proofs.laws.Optimal.{settled_solution}
 use Rattle.leftmost.specs.inside.Optimal.{AllFit, AllSupported, Level, Passes, Left}
 
 -- flows that fit are in complementary slackness

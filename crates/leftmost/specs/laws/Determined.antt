@@ -3,7 +3,7 @@
 use Rattle.std.specs.Prelude.{ℕ, ◌≡◌, refl, List}
 use Rattle.std.proofs.Common.{sym, ◌∙◌}
 use Rattle.network.specs.Net.{Net}
-use Rattle.circulation.specs.laws.Determined.{solved_nodes}
+use Rattle.circulation.proofs.laws.Determined.{solved_nodes}
 use Rattle.leftmost.specs.Solutions.{Finding, Means}
 use Rattle.leftmost.specs.Solutions.Finding.{solved, none, malformed}
 

@@ -1,0 +1,32 @@
+-- `circulation::solve` meets its contract: the whole nodes are lent, and put back before what stands behind them.
+use Rattle.network.specs.Nodes.{node_stride}
+use Rattle.network.specs.laws.TestedAnswers.{tested_yes, tested_no}
+use Rattle.circulation.proofs.laws.Parts.{valid_front, whole_back}
+use mathlib.Core.Path.{refl, ap}
+use Prim.Native.Nat.{ℕ, ◌*◌}
+use Rattle.circulation.proofs.solve.Goals as goal
+
+pub returns-then-not-valid : goal.returns-then-not-valid
+returns-then-not-valid c = (
+  (λ v. tested_no c.valid.result c.valid.ensures
+      c.if-not-valid.true v),
+  refl,
+  refl,
+)
+
+pub whole-requires : goal.whole-requires
+whole-requires c =
+    valid_front c.args.nodes.now (node_stride * c.count_of-end.result)
+    (ap (λ (k : ℕ). node_stride * k) c.count_of-end.ensures)
+    (tested_yes c.valid.result c.valid.ensures c.if-not-valid.false)
+
+pub returns : goal.returns
+returns c =
+    let back = whole_back c.args.nodes.now (node_stride * c.count_of-end.result)
+    (ap (λ (k : ℕ). node_stride * k) c.count_of-end.ensures) c.whole.new.nodes c.whole.auto.nodes
+    c.whole.new.flows c.whole.ensures.solution c.whole.ensures.zeroed in (
+      tested_yes c.valid.result c.valid.ensures c.if-not-valid.false,
+      c.whole.auto.flows,
+      back.0,
+      back.1,
+    )
