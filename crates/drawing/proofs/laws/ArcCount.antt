@@ -11,7 +11,7 @@ use Rattle.drawing.specs.Traces.{traces}
 use Rattle.sheet.specs.Layout.{layers_at, first_layer_at, nodes_at, separations_at, next_layer}
 use Rattle.drawing.specs.laws.Traces.{traces_length}
 use Rattle.drawing.specs.laws.Terms.{layer_length}
-use Rattle.drawing.specs.laws.SameDrawings.{length_pairs}
+use Rattle.drawing.proofs.laws.SameDrawings.{length_pairs}
 use Rattle.drawing.specs.laws.Good.{GoodLayers, Good}
 
 -- two arcs for each node of the layers

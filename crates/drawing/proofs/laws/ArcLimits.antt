@@ -14,8 +14,8 @@ use Rattle.drawing.specs.Sheet.{Pair, Layer, Edge, Sheet, pairs_of, layers_of, f
 use Rattle.drawing.specs.Traces.{traces}
 use Rattle.drawing.specs.Arcs.{edge_arc_between, edge_arc, minimum_arc, maximum_arc, separation_arcs, layer_arcs, network}
 use Rattle.drawing.specs.Proper.{not_crossed, proper_edge, proper_pair, Proper}
-use Rattle.drawing.specs.laws.ProperEdges.{edge_parts, proper_traces}
-use Rattle.drawing.specs.laws.SameDrawings.{length_pairs}
+use Rattle.drawing.proofs.laws.ProperEdges.{edge_parts, proper_traces}
+use Rattle.drawing.proofs.laws.SameDrawings.{length_pairs}
 
 -- a low limit from minus the greatest weight to 0, or none
 abbrev pub low_near : Limit → Bool

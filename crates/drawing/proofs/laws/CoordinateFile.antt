@@ -27,8 +27,8 @@ use Rattle.drawing.specs.Drawing.{coordinate, separated, Drawing}
 use Rattle.drawing.specs.CoordinateFile.{layer_places, file_numbers, file_bytes}
 use Rattle.drawing.specs.laws.Good.{GoodPairs, GoodLayers}
 use Rattle.drawing.specs.laws.GoodNumbers.{accepts_good}
-use Rattle.drawing.specs.laws.Proper.{nodes_are}
-use Rattle.drawing.specs.laws.SameDrawings.{inside_at, separated_least}
+use Rattle.drawing.proofs.laws.Proper.{nodes_are}
+use Rattle.drawing.proofs.laws.SameDrawings.{inside_at, separated_least}
 
 -- places that no coordinate of a file passes
 module _ (p : List ℕ) (inside : (v : ℕ) → coordinate p v ≤ max_coordinate) where

@@ -21,8 +21,8 @@ use Rattle.drawing.specs.Drawing.{weighted_length, total_length, total_from, run
 use Rattle.drawing.specs.Proper.{max_total, proper_edge, Proper}
 use Rattle.drawing.specs.laws.Good.{GoodLayers, Good}
 use Rattle.drawing.specs.laws.GoodNumbers.{accepts_good}
-use Rattle.drawing.specs.laws.ProperEdges.{edge_parts, proper_traces}
-use Rattle.drawing.specs.laws.Unique.{total_most}
+use Rattle.drawing.proofs.laws.ProperEdges.{edge_parts, proper_traces}
+use Rattle.drawing.proofs.laws.Unique.{total_most}
 
 -- everything counts from node 0 on
 pub zero_all : (x n : ℕ) → cond (leb 0 x) n 0 ≡ n

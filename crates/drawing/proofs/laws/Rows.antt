@@ -15,9 +15,10 @@ use Rattle.drawing.specs.Judged.{judged}
 use Rattle.drawing.specs.Arcs.{network}
 use Rattle.drawing.specs.Rows.{Outcome, Row, Says, RowHolds, Every}
 use Rattle.drawing.specs.Rows.Outcome.{drawn, undrawable, rejected}
-use Rattle.drawing.specs.laws.Judged.{judged_accepted}
-use Rattle.drawing.specs.laws.NoDrawing.{shows_none, no_drawing}
-use Rattle.drawing.specs.laws.LeftmostTest.{test_drawing}
+use Rattle.drawing.proofs.laws.Judged.{judged_accepted}
+use Rattle.drawing.specs.laws.NoDrawing.{shows_none}
+use Rattle.drawing.proofs.laws.NoDrawing.{no_drawing}
+use Rattle.drawing.proofs.laws.LeftmostTest.{test_drawing}
 
 -- the list has a number for each edge and two for each node
 abbrev pub whole_list : Sheet → List ℤ → Bool

@@ -6,7 +6,7 @@ use Rattle.drawing.specs.Sheet.{Sheet}
 use Rattle.drawing.specs.Proper.{Proper}
 use Rattle.drawing.specs.Drawing.{LeastDrawing}
 use Rattle.drawing.specs.Assignment.{LeastAssignment, shifted}
-use Rattle.drawing.specs.laws.Shift.{shifted_drawing, shifted_total, drawing_assignment, drawing_length}
+use Rattle.drawing.proofs.laws.Shift.{shifted_drawing, shifted_total, drawing_assignment, drawing_length}
 
 module _ (S : Sheet) (proper : Proper S) where
   -- a least drawing is a least assignment

@@ -13,7 +13,7 @@ use Rattle.drawing.specs.laws.Traces.{greatest_le}
 use Rattle.drawing.specs.Carriers.{At, NoneOf, Greatest, Carried, Apart}
 use Rattle.drawing.specs.laws.Carriers.{ends_back, ends_own, at_one, itself, carried_unique}
 use Rattle.drawing.specs.Carriers.At.{here, later}
-use Rattle.drawing.specs.laws.CarriedTraces.{none_parallel, parallel_none, traces_are}
+use Rattle.drawing.proofs.laws.CarriedTraces.{none_parallel, parallel_none, traces_are}
 
 -- no two edges have the same ends, as a test
 abbrev pub apart : List Edge → Bool

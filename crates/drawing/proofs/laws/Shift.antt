@@ -24,8 +24,8 @@ use Rattle.drawing.specs.Sheet.{Pair, Edge, Sheet}
 use Rattle.drawing.specs.Traces.{traces}
 use Rattle.drawing.specs.Drawing.{coordinate, within_maximum, separated, aligned}
 use Rattle.drawing.specs.Drawing.{edge_aligned, Drawing, edge_length, weighted_length, total_length}
-use Rattle.drawing.specs.laws.SameDrawings.{inside_at, at_inside}
-use Rattle.drawing.specs.laws.ProperEdges.{edge_parts, proper_traces}
+use Rattle.drawing.proofs.laws.SameDrawings.{inside_at, at_inside}
+use Rattle.drawing.proofs.laws.ProperEdges.{edge_parts, proper_traces}
 use Rattle.sheet.specs.Limits.{max_separation}
 use Rattle.drawing.specs.Proper.{not_crossed, proper_edge, proper_pair, Proper}
 

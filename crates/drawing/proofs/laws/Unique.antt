@@ -10,8 +10,8 @@ use Rattle.drawing.specs.Traces.{traces}
 use Rattle.drawing.specs.Proper.{max_total, proper_edge, Proper}
 use Rattle.drawing.specs.Drawing.{Drawing, weighted_length, total_length, LeftmostDrawing}
 use Rattle.drawing.specs.laws.Traces.{traces_length}
-use Rattle.drawing.specs.laws.ProperEdges.{edge_parts, proper_traces}
-use Rattle.drawing.specs.laws.SameDrawings.{inside_at}
+use Rattle.drawing.proofs.laws.ProperEdges.{edge_parts, proper_traces}
+use Rattle.drawing.proofs.laws.SameDrawings.{inside_at}
 
 -- a sheet has one leftmost least drawing at most
 pub leftmost_unique : (S : Sheet) (p q : List ℕ) → LeftmostDrawing S p → LeftmostDrawing S q → p ≡ q

@@ -15,7 +15,7 @@ use Rattle.drawing.specs.Sheet.{Pair, Layer, pairs_of, layers_of, first_nodes, s
 use Rattle.drawing.specs.Traces.{traces}
 use Rattle.drawing.specs.Drawing.{Drawing, total_length, LeftmostDrawing}
 use Rattle.drawing.specs.Arcs.{edge_arc, minimum_arc, maximum_arc, separation_arcs, layer_arcs, network}
-use Rattle.drawing.specs.laws.SameDrawings.{feasible_drawing, drawings_modelled}
+use Rattle.drawing.proofs.laws.SameDrawings.{feasible_drawing, drawings_modelled}
 
 -- a number that is taken away is not positive
 minus_le : (n : ℕ) → neg_ℤ (pos n) ≤ℤ pos 0

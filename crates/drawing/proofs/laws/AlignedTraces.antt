@@ -9,7 +9,7 @@ use Rattle.drawing.specs.Drawing.{coordinate, aligned, edge_aligned}
 use Rattle.drawing.specs.laws.Traces.{traces_length}
 use Rattle.drawing.specs.Carriers.{SameEnds}
 use Rattle.drawing.specs.laws.Carriers.{ends_on, ends_back, at_listed, all_at, at_length, one_carrier}
-use Rattle.drawing.specs.laws.CarriedTraces.{traces_are, traces_all}
+use Rattle.drawing.proofs.laws.CarriedTraces.{traces_are, traces_all}
 
 -- ends that are equal where a kind asks it are where a smaller one does
 aligned_less : (a b u v : ℕ) → a ≤ b → T (aligned b u v) → T (aligned a u v)

@@ -9,7 +9,7 @@ use Rattle.drawing.specs.Traces.{traces}
 use Rattle.drawing.specs.Proper.{proper_edge, Proper}
 use Rattle.drawing.specs.Carriers.{At}
 use Rattle.drawing.specs.laws.Carriers.{at_listed}
-use Rattle.drawing.specs.laws.CarriedTraces.{traces_all}
+use Rattle.drawing.proofs.laws.CarriedTraces.{traces_all}
 
 -- the parts of the test
 pub record ProperEdge (n : ℕ) (e : Edge) : Type 0 where

@@ -9,10 +9,10 @@ use Rattle.network.proofs.laws.HeldOnly.{leftmost_test, test_leftmost, leftmost_
 use Rattle.drawing.specs.Sheet.{sheet_of}
 use Rattle.drawing.specs.Drawing.{LeftmostDrawing}
 use Rattle.drawing.specs.Arcs.{network}
-use Rattle.drawing.specs.laws.SameRules.{same_rules, same_bound}
-use Rattle.drawing.specs.laws.SameDrawings.{drawing_feasible, same_total, leftmost_drawing}
-use Rattle.drawing.specs.laws.Hanging.{drawing_leftmost}
-use Rattle.drawing.specs.laws.Judged.{Accepted}
+use Rattle.drawing.proofs.laws.SameRules.{same_rules, same_bound}
+use Rattle.drawing.proofs.laws.SameDrawings.{drawing_feasible, same_total, leftmost_drawing}
+use Rattle.drawing.proofs.laws.Hanging.{drawing_leftmost}
+use Rattle.drawing.proofs.laws.Judged.{Accepted}
 
 module _ (s p : List ℕ) (y : List ℤ) (a : Accepted (sheet_of s) p y) where
   -- the sheet's network

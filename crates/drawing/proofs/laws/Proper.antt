@@ -11,7 +11,7 @@ use Rattle.sheet.specs.laws.Sheets.{good_layout}
 use Rattle.drawing.specs.Sheet.{Edge, pairs_of, layers_of, first_nodes, edge_of, edges_of, sheet_of}
 use Rattle.drawing.specs.laws.Good.{GoodPair, GoodPairs, GoodLayers, GoodEdges}
 use Rattle.drawing.specs.Proper.{not_crossed, proper_pair, proper_edge, Proper}
-use Rattle.drawing.specs.laws.ProperEdges.{parts_edge}
+use Rattle.drawing.proofs.laws.ProperEdges.{parts_edge}
 use Rattle.drawing.specs.laws.GoodNumbers.{last_first_node, accepts_good}
 
 -- a good pair is proper

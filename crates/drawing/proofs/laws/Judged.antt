@@ -17,8 +17,8 @@ use Rattle.drawing.specs.Drawing.{separated, edge_aligned, Drawing, is_drawing, 
 use Rattle.drawing.specs.Certificate.{meets_rules, bound}
 use Rattle.drawing.specs.Judged.{judged}
 use Rattle.drawing.specs.Arcs.{network}
-use Rattle.drawing.specs.laws.SameDrawings.{drawing_feasible, same_total, feasible_drawing, least_drawing}
-use Rattle.drawing.specs.laws.SameRules.{same_rules, same_bound}
+use Rattle.drawing.proofs.laws.SameDrawings.{drawing_feasible, same_total, feasible_drawing, least_drawing}
+use Rattle.drawing.proofs.laws.SameRules.{same_rules, same_bound}
 
 -- the checker's yes, as facts
 pub record Accepted (S : Sheet) (p : List ℕ) (y : List ℤ) : Type 0 where

@@ -19,7 +19,7 @@ use Rattle.drawing.specs.Arcs.{network}
 use Rattle.drawing.specs.Rows.{Every}
 use Rattle.drawing.specs.Table.{table}
 use Rattle.drawing.specs.laws.NoDrawing.{shows_none}
-use Rattle.drawing.specs.laws.Rows.{every}
+use Rattle.drawing.proofs.laws.Rows.{every}
 
 -- every row holds
 pub sheets : Every table

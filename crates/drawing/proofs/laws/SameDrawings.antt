@@ -22,8 +22,8 @@ use Rattle.drawing.specs.Drawing.{LeastDrawing, LeftmostDrawing}
 use Rattle.drawing.specs.Arcs.{edge_arc, layer_arcs, network}
 use Rattle.network.specs.laws.Integers.{+ℤ_none}
 use Rattle.network.specs.laws.Models.{Models, models_least, models_leftmost}
-use Rattle.drawing.specs.laws.AlignedTraces.{aligned_traces}
-use Rattle.drawing.specs.laws.ArcTests.{edge_is, layer_is, edge_cost, layer_cost}
+use Rattle.drawing.proofs.laws.AlignedTraces.{aligned_traces}
+use Rattle.drawing.proofs.laws.ArcTests.{edge_is, layer_is, edge_cost, layer_cost}
 
 -- a layer's pairs have their separations, and its last node is within the width
 abbrev layer_test : ℕ → List ℕ → Layer → Bool
