@@ -43,9 +43,10 @@ all: $(PROGRAM) lib
 
 lib: $(SHARED)
 
-# The kit writes the archive anew each time.
+# The kit writes the archive anew each time, in the crate's folder.
 $(STATIC): FORCE
-	$(RT) staticlib strip
+	cd crates/strip && $(RT) lib
+	mkdir -p $(@D) && cp crates/strip/out/libstrip.a $@
 
 # The archive is position independent and needs nothing but memcpy and memset.
 $(SHARED): $(STATIC) crates/strip/exports.map Makefile
@@ -54,12 +55,13 @@ $(SHARED): $(STATIC) crates/strip/exports.map Makefile
 	    -Wl,-z,defs -Wl,-z,now -Wl,--whole-archive $(STATIC) -Wl,--no-whole-archive $(LDFLAGS)
 	ln -sf $(@F) target/lib/libstrip.so
 
-# The kit leaves a program as it is where nothing has changed; its time then says when that was found.
+# The kit builds a program and runs it, here on no bytes. A program that is the same stays; its time says when that was found.
 $(PROGRAM): FORCE
-	$(RT) check $(@F) && touch -c $@
+	cd crates/$(@F) && $(RT) run </dev/null >/dev/null
+	mkdir -p $(@D) && { cmp -s crates/$(@F)/out/$(@F) $@ || cp crates/$(@F)/out/$(@F) $@; } && touch -c $@
 
 # The files of a crate and of those that it uses.
-crates = $(1) $(shell sed -n 's/^$(1): *//p' crates.txt)
+crates = $(1) $(shell sed -n 's/^$(1)\( staticlib\)\{0,1\}: *//p' crates.txt)
 sources = crates.txt $(wildcard $(foreach crate,$(call crates,$(1)),$(addprefix crates/$(crate)/,src specs proofs)))
 
 # Prints a file's name where one of a crate's files is newer.
@@ -110,17 +112,19 @@ uninstall:
 
 # A copy of the crates is proved, so that what is built stays. A must-fail edit of a crate takes as long as its check.
 times:
-	@copy=$$(mktemp -d) && cp -R crates crates.txt "$$copy" && (cd "$$copy" && $(RT) check) > "$$copy/log" 2>&1; status=$$?; \
-	    sed -n 's/^rt: \(.*\) proved (\(.*\) s)$$/\1 \2/p' "$$copy/log" | while read -r crate seconds; do \
-	        echo "$$crate $$seconds $$(find "crates/$$crate/must-fail" -name '*.edit' 2>/dev/null | wc -l)"; done | \
+	@copy=$$(mktemp -d) && mkdir "$$copy/.git" && cp -R crates crates.txt "$$copy" && rm -rf "$$copy"/crates/*/out; \
+	    for crate in $$(sed -n 's/^\([a-z0-9_]*\)[^:#]*:.*/\1/p' crates.txt); do \
+	        begun=$$(date +%s); (cd "$$copy/crates/$$crate" && $(RT) verdict) > "$$copy/log" 2>&1 || { touch "$$copy/failed"; break; }; \
+	        echo "$$crate $$(($$(date +%s) - begun)) $$(find "crates/$$crate/must-fail" -name '*.edit' 2>/dev/null | wc -l)"; done | \
 	    awk 'BEGIN { format = "%-14s %9s %6s %14s\n"; printf format, "crate", "check", "edits", "check x edits" } \
 	        { printf format, $$1, $$2 " s", $$3, $$2 * $$3 " s"; check += $$2; edits += $$3; product += $$2 * $$3 } \
 	        END { printf format, "sum", check " s", edits, product " s" }'; \
-	    [ $$status -eq 0 ] || tail -n 5 "$$copy/log" >&2; rm -rf "$$copy"; exit $$status
+	    status=0; [ ! -e "$$copy/failed" ] || { status=1; tail -n 5 "$$copy/log" >&2; }; rm -rf "$$copy"; exit $$status
 
 # What the demo and the gate need is tested before any proof, and installed as root on Debian, unless SETUP is no.
 check:
 	@RT=rt .ci/needs --install check
+	rm -rf target
 	.ci/run
 
 demo-needs:
@@ -141,7 +145,7 @@ demo: demo-needs all
 	$(next)
 
 clean:
-	rm -rf target
+	rm -rf target crates/*/out
 
 help:
 	@sed -n 's/^#   //p' Makefile

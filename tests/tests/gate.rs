@@ -4,18 +4,22 @@
 mod fakes;
 mod tools;
 
+use std::fs;
+
 use fakes::Repository;
 
 /// What `rt ci` says last where all is well.
 const VERDICT: &str = "76 passed, 0 failed";
 
-/// The kit: it keeps what it is asked in a file. Like the kit it removes what is in target/ first.
+/// The kit: it keeps what it is asked in a file, and makes what the kit would make.
 const KIT: &str = r#"
-echo "rt $*" >> asked
+top=${0%/tools/*}
+echo "rt $*" >> "$top/asked"
 case $1 in
 version) cat .ci/kit ;;
-ci) rm -rf target; mkdir target; echo "rt: ok, all proved"; echo "76 passed, 0 failed" ;;
-staticlib) mkdir -p target/staticlib ;;
+ci) echo "rt: ok, all proved; must-fail edits: 9 refused, 0 bad"; echo "76 passed, 0 failed" ;;
+lib) mkdir -p out; true > out/libstrip.a ;;
+run) mkdir -p out; true > out/place ;;
 esac
 "#;
 
@@ -29,7 +33,11 @@ done
 "#;
 
 /// Faults of `rt ci`: what is wrong, and what it does in place of the above.
-const KIT_FAULTS: [(&str, &str); 7] = [
+const KIT_FAULTS: [(&str, &str); 8] = [
+    (
+        "a must-fail edit is bad",
+        "echo 'rt: ok; must-fail edits: 8 refused, 1 bad'; echo '76 passed, 0 failed'; exit 0",
+    ),
     (
         "a crate is not proved",
         "echo 'rt: FAILED: sheet'; echo '75 passed, 1 failed'; exit 1",
@@ -84,6 +92,9 @@ fn repository(name: &str) -> Repository {
     repository.command("cargo", &format!("{CARGO_VERSION}{CARGO}"));
     repository.program("tests/tests/one.rs", "");
     repository.program("tests/tests/two.rs", "");
+    for folder in ["crates/strip", "crates/place"] {
+        fs::create_dir_all(repository.path(folder)).expect("folders can be made");
+    }
     repository
 }
 
@@ -104,7 +115,7 @@ fn last_line_is_that_of_rt_ci() {
     assert!(said.contains("rt: ok, all proved"));
     assert_eq!(said.matches("test result: ok.").count(), 2);
     let expected =
-        "rt version\nrt ci\nrt staticlib strip\ncargo test --release --offline --locked\n";
+        "rt version\nrt ci\nrt lib\nrt run\ncargo test --release --offline --locked\n";
     assert_eq!(repository.asked(), expected);
     repository.check_nothing_left();
 }
@@ -128,12 +139,23 @@ fn faults_of_rt_ci_are_told() {
 }
 
 #[test]
-fn a_library_that_is_not_built_is_told() {
-    check_fault(
-        "staticlib",
-        "rt",
-        &format!("case $1 in staticlib) exit 1 ;; esac{KIT}"),
-    );
+fn a_library_or_a_program_that_is_not_built_is_told() {
+    for verb in ["lib", "run"] {
+        check_fault(verb, "rt", &format!("case $1 in {verb}) exit 1 ;; esac{KIT}"));
+        let nothing = format!("case $1 in {verb}) exit 0 ;; esac{KIT}");
+        check_fault(&format!("{verb} made"), "rt", &nothing);
+    }
+}
+
+#[test]
+fn what_an_earlier_run_left_is_told() {
+    let repository = repository("left");
+    fs::create_dir(repository.path("target")).expect("a folder can be made");
+    let (success, said) = run(&repository);
+    assert!(!success, "{said}");
+    let last = ".ci/run: target/ stands in the way of rt ci: make clean";
+    assert_eq!(said.lines().last(), Some(last));
+    assert_eq!(repository.asked(), "rt version\n");
 }
 
 #[test]

@@ -10,13 +10,16 @@ use std::time::{Duration, SystemTime};
 
 use tools::{folder, make, root, run_in};
 
-/// The kit of these tests: it keeps what it is asked in a file, and makes what the kit would make.
-/// Like the kit it writes the archive anew each time, and leaves a program that is there.
+/// The kit of these tests: it keeps in a file what it is asked in which crate's folder, and makes what
+/// the kit would make. Like the kit it writes the archive anew each time, and leaves a program that
+/// is there.
 const KIT: &str = r#"
-echo "$*" >> asked
+top=${0%/*}
+echo "${PWD##*/} $*" >> "$top/asked"
+mkdir -p out
 case $1 in
-staticlib) mkdir -p target/staticlib && cp archive.a target/staticlib/libstrip.a ;;
-check) mkdir -p target/bin && if [ ! -e target/bin/place ]; then cp archive.a target/bin/place; fi ;;
+lib) cp "$top/archive.a" out/libstrip.a ;;
+run) if [ ! -e out/place ]; then cp "$top/archive.a" out/place; fi ;;
 esac
 "#;
 
@@ -113,9 +116,14 @@ impl Repository {
         String::from_utf8_lossy(&output.stdout).into_owned()
     }
 
+    /// What tells make that a file here is the kit's command.
+    fn kit(&self, file: &str) -> String {
+        format!("RT=sh {}", self.folder.join(file).display())
+    }
+
     /// Runs make here, with the kit of these tests.
     fn run(&self, arguments: &[&str]) -> Output {
-        run_in(&self.folder, make().arg("RT=sh rt").args(arguments))
+        run_in(&self.folder, make().arg(self.kit("rt")).args(arguments))
     }
 
     /// What make says on standard error; it must succeed or fail as told.
@@ -157,13 +165,13 @@ fn kit_is_asked_each_time() {
     let repository = Repository::new("asked");
     for _ in 0..2 {
         assert_eq!(repository.said(&[], true), "");
-        assert_eq!(repository.asked(), ["check place", "staticlib strip"]);
+        assert_eq!(repository.asked(), ["place run", "strip lib"]);
     }
     for file in BUILT {
         assert!(repository.has(file), "{file}");
     }
     repository.said(&["lib"], true);
-    assert_eq!(repository.asked(), ["staticlib strip"]);
+    assert_eq!(repository.asked(), ["strip lib"]);
 }
 
 #[test]
@@ -278,21 +286,33 @@ fn help_has_every_target() {
 #[test]
 fn times_are_those_of_a_copy() {
     let repository = Repository::new("times");
-    let kit =
-        "echo rt: leb128 proved \\(6 s\\)\necho rt: sheet proved \\(25 s\\)\necho rt: ok\n[ -e crates.txt ] && [ ! -e Makefile ]\n";
-    repository.write("kit", kit.as_bytes());
+    repository.write("crates.txt", b"# NAME: what it uses\nleb128:\nsheet: leb128\n");
+    repository.write("crates/leb128/src/lib.rt", b"");
+    repository.write("kit", b"[ \"$1\" = verdict ] && [ -e ../../crates.txt ] && [ ! -e ../../Makefile ]\n");
+    // a clock on which the crates take 6 and 25 seconds
+    let clock = "#!/bin/sh\nread -r now rest < \"$CLOCK\"\necho \"$rest\" > \"$CLOCK\"\necho \"$now\"\n";
+    repository.program("tools/date", clock);
+    repository.write("clock", b"10 16 20 45\n");
     for edit in ["one", "two"] {
         repository.write(&format!("crates/sheet/must-fail/{edit}.edit"), b"");
     }
-    let kit = format!("RT=sh {}", repository.folder.join("kit").display());
-    let printed = repository.output(make().arg(&kit).arg("times"));
+    let times = || {
+        let path = format!("{}:{}", repository.folder.join("tools").display(), env!("PATH"));
+        let mut command = make();
+        command.env("PATH", path).env("CLOCK", repository.folder.join("clock"));
+        command.arg(repository.kit("kit")).arg("times");
+        run_in(&repository.folder, &mut command)
+    };
+    let output = times();
+    assert!(output.status.success(), "{output:?}");
+    let printed = String::from_utf8_lossy(&output.stdout);
     let words = |line: &str| line.split_whitespace().collect::<Vec<_>>().join(" ");
     let printed: Vec<String> = printed.lines().map(words).collect();
     let rows = ["leb128 6 s 0 0 s", "sheet 25 s 2 50 s", "sum 31 s 2 50 s"];
     assert_eq!(printed[0], "crate check edits check x edits");
     assert_eq!(printed[1..], rows);
-    repository.write("kit", b"echo rt: sheet NOT PROVED\nexit 1\n");
-    let failed = run_in(&repository.folder, make().arg(&kit).arg("times"));
+    repository.write("kit", b"echo sheet: NOT PROVED\nexit 1\n");
+    let failed = times();
     assert!(!failed.status.success());
     assert!(String::from_utf8_lossy(&failed.stderr).contains("NOT PROVED"));
     assert!(!repository.has("target"));
@@ -314,7 +334,7 @@ fn demo_tests_the_tools_and_builds_all() {
     assert!(!output.status.success(), "{output:?}");
     let printed = String::from_utf8_lossy(&output.stdout);
     assert!(printed.ends_with("\nrefused 8 at 0\n"), "{printed}");
-    let asked = ["needs --install demo", "check place", "staticlib strip"];
+    let asked = ["needs --install demo", "place run", "strip lib"];
     assert_eq!(repository.asked(), asked);
     for file in BUILT {
         assert!(repository.has(file), "{file}");

@@ -32,8 +32,8 @@ pub const NEEDED: [(&str, &str); 18] = [
 ];
 
 /// The system's own commands that the scripts use, and those of these tests.
-const SYSTEM: [&str; 20] = [
-    "awk", "bash", "cat", "dirname", "getconf", "id", "mkdir", "mktemp", "mv", "nproc", "paste",
+const SYSTEM: [&str; 22] = [
+    "awk", "bash", "cat", "cp", "dirname", "getconf", "grep", "id", "mkdir", "mktemp", "mv", "nproc", "paste",
     "rm", "sed", "sh", "sort", "tail", "tee", "tr", "true", "uname",
 ];
 
