@@ -23,7 +23,7 @@ def plain(name):
 
 
 def goal_key(name):
-    return re.sub(r"^overflow-", "", plain(name))
+    return re.sub(r"^slice-bounds-", "part-", re.sub(r"^overflow-", "", plain(name)))
 
 
 def read(path):
@@ -162,6 +162,25 @@ class Function:
                     return ".".join(["c", "type_inv", name] + rest[1:])
         return None
 
+    def whole(self, text, before, chain):
+        """The clauses of a call, or of the function, that are handed on as one: a tuple of them, unless to a tactic."""
+        names = []
+        if text == "c.requires":
+            names = (self.data.get("pre") or {}).get("fields") or []
+        elif text.endswith(".ensures"):
+            step = next((p for p in chain if "c." + p[2][1] + ".ensures" == text), None)
+            if step and step[3] in self.sigs:
+                names = self.sigs[step[3]][1]["ensures"]
+        if len(names) < 2:
+            return text
+        calls = [m.start() for m in re.finditer(r"\b(?:omega|grind|search|cc|simp|rw) \(", before)]
+        if any(before[i:].count("(") > before[i:].count(")") for i in calls):
+            return text
+        out = f"{text}.{names[-1]}"
+        for n in reversed(names[:-1]):
+            out = f"({text}.{n}, {out})"
+        return out
+
     def turn(self, body, place):
         chain = self.chain(place)
         alias = {"c": (0, None)}
@@ -190,7 +209,7 @@ class Function:
             if root not in alias or not tail and re.match(r" = ", m.string[m.end():]):
                 return m.group(0)
             at, text = path(root, tail)
-            return text if text is not None else "c"
+            return self.whole(text, m.string[: m.start()], chain) if text is not None else "c"
 
         out, rest = "", body
         while True:

@@ -7,7 +7,6 @@ use mathlib.Core.List.{List, [], ◌∷◌, ◌++◌, map, flat_map, append_asso
 use Rattle.std.proofs.Math.ListN.{length-map}
 use Rattle.std.proofs.Math.Seq.{take_at}
 use Rattle.leb128.specs.Format.Result.{elements}
-use Rattle.sheet.specs.Grammar.{sheet}
 use Rattle.sheet.specs.Reading.{read_sheet}
 use Rattle.sheet.specs.Layout.{node_count}
 use Rattle.sheet.specs.Limits.{max_nodes}
