@@ -227,6 +227,7 @@ class Function:
                 out += m.group(0)
             rest = rest[m.end():]
         out = re.sub(r",\s*c\.ranges(?=\s*[,)])", "", out)
+        out = out.replace(".type-inv", ".type_inv")
         # a test of `not x` is now a fact about x
         calls = {p[2][1] for p in chain if p[3]}
         def fact(m):
@@ -314,7 +315,11 @@ def record_of(body, names):
 
 
 def variables(body, names, loop):
-    """A body over the parameters of an old invariant, over l."""
+    """A body over the parameters of an old invariant, over l; what a λ binds keeps a name of its own."""
+    for name in [n for n in names if re.search(r"λ \(?" + re.escape(n) + r"(?=[.\s])", body)]:
+        own = name + "'"
+        body = re.sub(r"(λ \(?)" + re.escape(name) + r"(?=[.\s])(.*)", lambda m: m.group(1) + own + re.sub(r"(?<![\w.'₀-])" + re.escape(name) + r"(?![\w'₀-])", own, m.group(2)), body, flags=re.S)
+
     def put(m):
         root, tail = m.group(1), m.group(2)
         return names[root] + tail if root in names else m.group(0)

@@ -30,8 +30,8 @@ separation_arcs x = minimum_arc x ∷ maximum_arc x.maximum x.left ∷ []
 
 -- the arcs of a layer: left boundary (left wall), pairs, right boundary
 abbrev pub layer_arcs : ℕ → ℕ → Layer → List Arc
-layer_arcs width ground l =
-    upper_bound l.first ground (pos 0) ∷ flat_map separation_arcs l.pairs ++ upper_bound ground (l.first + length l.pairs) (pos width) ∷ []
+layer_arcs width ground_node l =
+    upper_bound l.first ground_node (pos 0) ∷ flat_map separation_arcs l.pairs ++ upper_bound ground_node (l.first + length l.pairs) (pos width) ∷ []
 
 -- the arcs of the traces, then those of the layers
 unfoldable pub network : Sheet → Network

@@ -18,8 +18,8 @@ use Rattle.drawing.specs.Arcs.{edge_arc, layer_arcs, network}
 use Rattle.drawing.specs.laws.Good.{GoodLayers, GoodEdges, GoodRest, Good}
 use Rattle.drawing.specs.laws.GoodNumbers.{first_nodes_length}
 use Rattle.drawing.specs.laws.Traces.{traces_length}
-use Rattle.drawing.specs.laws.Proper.{edges_length}
-use Rattle.drawing.specs.laws.ArcCount.{layers_count}
+use Rattle.drawing.proofs.laws.Proper.{edges_length}
+use Rattle.drawing.proofs.laws.ArcCount.{layers_count}
 use Rattle.leb128.specs.Words.{Small}
 use Rattle.arcs.specs.inside.Pieces.{layers_arcs}
 use Rattle.arcs.specs.inside.Plans.{Planned, written}

@@ -16,7 +16,7 @@ use Rattle.network.proofs.laws.PackedBack.{packs_length}
 use Rattle.drawing.specs.Sheet.{pairs_of, layers_of}
 use Rattle.drawing.specs.Arcs.{separation_arcs, layer_arcs}
 use Rattle.drawing.specs.laws.Good.{GoodLayer}
-use Rattle.drawing.specs.laws.SameDrawings.{length_pairs}
+use Rattle.drawing.proofs.laws.SameDrawings.{length_pairs}
 use Rattle.drawing.specs.laws.Terms.{layer_length}
 use Rattle.leb128.specs.Words.{Small}
 use Rattle.arcs.specs.inside.Pieces.{layer_at, layers_arcs}

@@ -14,8 +14,8 @@ use Rattle.drawing.specs.Traces.{parallel, any_parallel, greatest_parallel, whol
 use Rattle.drawing.specs.Arcs.{edge_arc_between, edge_arc}
 use Rattle.drawing.specs.Proper.{proper_edge}
 use Rattle.drawing.specs.laws.Good.{GoodEdges}
-use Rattle.drawing.specs.laws.Proper.{edges_proper}
-use Rattle.drawing.specs.laws.ProperEdges.{edge_parts}
+use Rattle.drawing.proofs.laws.Proper.{edges_proper}
+use Rattle.drawing.proofs.laws.ProperEdges.{edge_parts}
 use Rattle.drawing.specs.laws.Traces.{greatest_le}
 use Rattle.arcs.specs.inside.Traces.{strength_of, strength, strength_arc, strongest, left_over}
 

@@ -20,13 +20,13 @@ use Rattle.drawing.specs.Certificate.{certificate_size}
 use Rattle.drawing.specs.Arcs.{edge_arc, layer_arcs, network}
 use Rattle.drawing.specs.laws.Traces.{traces_length}
 use Rattle.drawing.specs.laws.GoodNumbers.{accepts_good}
-use Rattle.drawing.specs.laws.Proper.{accepts_proper}
+use Rattle.drawing.proofs.laws.Proper.{accepts_proper}
 use Rattle.drawing.specs.Proper.{proper_edge, Proper}
 use Rattle.drawing.specs.Carriers.{At}
 use Rattle.drawing.specs.laws.Carriers.{at_listed}
-use Rattle.drawing.specs.laws.ProperEdges.{edge_parts, proper_traces}
-use Rattle.drawing.specs.laws.ArcCount.{arcs_count}
-use Rattle.drawing.specs.laws.ArcLimits.{network_storable}
+use Rattle.drawing.proofs.laws.ProperEdges.{edge_parts, proper_traces}
+use Rattle.drawing.proofs.laws.ArcCount.{arcs_count}
+use Rattle.drawing.proofs.laws.ArcLimits.{network_storable}
 use Rattle.arcs.specs.declared.Counts.{Counts}
 use Rattle.arcs.specs.Loading.{layer_firsts, firsts_size, arcs_size}
 use Rattle.arcs.specs.laws.LayerFirsts.{firsts_length}

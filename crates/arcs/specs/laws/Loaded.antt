@@ -19,9 +19,9 @@ use Rattle.drawing.specs.Sheet.{sheet_of}
 use Rattle.drawing.specs.Sheet as drawing
 use Rattle.drawing.specs.Arcs.{network}
 use Rattle.drawing.specs.laws.GoodNumbers.{accepts_good}
-use Rattle.drawing.specs.laws.Proper.{accepts_proper}
+use Rattle.drawing.proofs.laws.Proper.{accepts_proper}
 use Rattle.drawing.specs.Proper.{Proper}
-use Rattle.drawing.specs.laws.ArcCount.{arcs_count}
+use Rattle.drawing.proofs.laws.ArcCount.{arcs_count}
 use Rattle.arcs.specs.Limits.{max_elements, max_firsts}
 use Rattle.arcs.specs.Loading.{loading, layer_firsts, firsts_size, arcs_size, counts_of, too_short}
 use Rattle.arcs.specs.Loading.{fitted, load_answer, load_firsts, load_arcs}

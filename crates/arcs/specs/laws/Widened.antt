@@ -23,9 +23,9 @@ use Rattle.drawing.specs.Proper.{proper_edge}
 use Rattle.drawing.specs.Widths.{with_width}
 use Rattle.drawing.specs.laws.Good.{GoodLayer, GoodLayers, Good}
 use Rattle.drawing.specs.laws.GoodNumbers.{accepts_good}
-use Rattle.drawing.specs.laws.Proper.{nodes_are, accepts_proper}
-use Rattle.drawing.specs.laws.ProperEdges.{edge_parts, proper_traces}
-use Rattle.drawing.specs.laws.Widths.{width_accepts, width_sheet}
+use Rattle.drawing.proofs.laws.Proper.{nodes_are, accepts_proper}
+use Rattle.drawing.proofs.laws.ProperEdges.{edge_parts, proper_traces}
+use Rattle.drawing.proofs.laws.Widths.{width_accepts, width_sheet}
 use Rattle.arcs.specs.declared.Counts.{Counts}
 use Rattle.arcs.specs.inside.Pieces.{pair_at, layer_at}
 use Rattle.arcs.specs.Loading.{layer_firsts}

@@ -17,7 +17,7 @@ use Rattle.network.specs.Network.{Network, integers}
 use Rattle.network.specs.Flows.{certifies}
 use Rattle.drawing.specs.Sheet.{sheet_of}
 use Rattle.drawing.specs.Judged.{judged}
-use Rattle.drawing.specs.laws.Judged.{judged_certifies}
+use Rattle.drawing.proofs.laws.Judged.{judged_certifies}
 use Rattle.arcs.specs.declared.Counts.{Counts}
 use Rattle.checker.specs.Verdict.{judgement, decided, judge_numbers, check_answer}
 use Rattle.arcs.specs.laws.Loaded.{LoadedSheet}

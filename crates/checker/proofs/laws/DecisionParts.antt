@@ -17,7 +17,7 @@ use Rattle.network.specs.Packed.{stride, arc_at, arcs_to, network_of, flow_at}
 use Rattle.network.specs.laws.Indexed.{flows_upto}
 use Rattle.drawing.specs.Sheet.{sheet_of}
 use Rattle.drawing.specs.Drawing.{Drawing}
-use Rattle.drawing.specs.laws.SameDrawings.{feasible_drawing, same_total}
+use Rattle.drawing.proofs.laws.SameDrawings.{feasible_drawing, same_total}
 use Rattle.leb128.specs.Words.{u32_most}
 use Rattle.totals.specs.Lengths.{lengths_of}
 use Rattle.totals.specs.laws.SheetLengths.{drawing_total}

@@ -13,7 +13,7 @@ use Rattle.drawing.specs.Sheet.{sheet_of}
 use Rattle.drawing.specs.Drawing.{LeastDrawing}
 use Rattle.drawing.specs.Certificate.{certificate_size}
 use Rattle.drawing.specs.Judged.{judged}
-use Rattle.drawing.specs.laws.Judged.{judged_least}
+use Rattle.drawing.proofs.laws.Judged.{judged_least}
 use Rattle.checker.specs.Shown.{ShownLeast}
 use Rattle.checker.specs.Verdict.{accepted, decided, judge_numbers, check_answer}
 

@@ -24,9 +24,9 @@ use Rattle.drawing.specs.Sheet.{Sheet, sheet_of}
 use Rattle.drawing.specs.Drawing.{coordinate, LeftmostDrawing, total_length}
 use Rattle.drawing.specs.Certificate.{certificate_size, meets_rules, bound}
 use Rattle.drawing.specs.Arcs.{network}
-use Rattle.drawing.specs.laws.Hanging.{solution_drawing}
-use Rattle.drawing.specs.laws.SameDrawings.{inside_at, same_total, leftmost_drawing}
-use Rattle.drawing.specs.laws.SameRules.{same_rules, same_bound}
+use Rattle.drawing.proofs.laws.Hanging.{solution_drawing}
+use Rattle.drawing.proofs.laws.SameDrawings.{inside_at, same_total, leftmost_drawing}
+use Rattle.drawing.proofs.laws.SameRules.{same_rules, same_bound}
 use Rattle.network.specs.Nodes.{node_stride, potential_zero, potentials}
 use Rattle.circulation.specs.Solutions.{flows_of, potentials_of}
 use Rattle.circulation.specs.laws.Columns.{column_at}

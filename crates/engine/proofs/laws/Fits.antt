@@ -20,12 +20,12 @@ use Rattle.network.specs.laws.Sizes.{size_parts}
 use Rattle.network.specs.laws.Indexed.{upto_all}
 use Rattle.network.specs.laws.IntegerParts.{less_parts}
 use Rattle.network.specs.laws.Hanging.{Hangs}
-use Rattle.drawing.specs.laws.Hanging.{sheet_hangs}
+use Rattle.drawing.proofs.laws.Hanging.{sheet_hangs}
 use Rattle.drawing.specs.Sheet.{sheet_of}
 use Rattle.drawing.specs.Drawing.{Drawing}
 use Rattle.drawing.specs.Arcs.{network}
-use Rattle.drawing.specs.laws.SameDrawings.{drawing_feasible}
-use Rattle.drawing.specs.laws.ArcLimits.{low_near, high_near, near, Near, near_parts, network_near}
+use Rattle.drawing.proofs.laws.SameDrawings.{drawing_feasible}
+use Rattle.drawing.proofs.laws.ArcLimits.{low_near, high_near, near, Near, near_parts, network_near}
 use Rattle.arcs.specs.declared.Counts.{Counts}
 use Rattle.arcs.specs.Held.{Holds}
 use Rattle.arcs.specs.laws.HeldArcs.{proper, size_is, arcs_there, network_is}

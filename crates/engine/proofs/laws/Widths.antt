@@ -16,8 +16,9 @@ use Rattle.network.specs.Network.{Network, Feasible, integers}
 use Rattle.network.specs.Net.{net, meant}
 use Rattle.drawing.specs.Sheet.{Sheet, sheet_of, at_width}
 use Rattle.drawing.specs.Drawing.{NoDrawing}
-use Rattle.drawing.specs.laws.SameDrawings.{feasible_drawing}
-use Rattle.drawing.specs.laws.Widths.{greatest, LowestAt, none_narrower, greatest_in, drawing_narrow, narrower_none}
+use Rattle.drawing.proofs.laws.SameDrawings.{feasible_drawing}
+use Rattle.drawing.specs.laws.Widths.{greatest}
+use Rattle.drawing.proofs.laws.Widths.{LowestAt, none_narrower, greatest_in, drawing_narrow, narrower_none}
 use Rattle.difference.specs.Solutions.{Lowest, NoneFeasible}
 use Rattle.arcs.specs.Limits.{max_arcs}
 use Rattle.packed.specs.Widths.{widened}

@@ -8,7 +8,7 @@ use Rattle.leb128.specs.Format.Result.{elements}
 use Rattle.drawing.specs.Sheet.{sheet_of}
 use Rattle.drawing.specs.Certificate.{certificate_size}
 use Rattle.drawing.specs.Judged.{judged}
-use Rattle.drawing.specs.laws.Judged.{Accepted, accepted_judged}
+use Rattle.drawing.proofs.laws.Judged.{Accepted, accepted_judged}
 use Rattle.network.specs.laws.Tests.{is_true}
 use Rattle.checker.specs.Verdict.{accepted, judge_numbers, check_answer}
 use Rattle.checker.specs.laws.Decided.{numbers_decided}

@@ -13,9 +13,9 @@ use Rattle.network.specs.Network.{integers}
 use Rattle.drawing.specs.Sheet.{sheet_of}
 use Rattle.drawing.specs.Assignment.{Assignment, LeastAssignment, shifted}
 use Rattle.drawing.specs.Proper.{Proper}
-use Rattle.drawing.specs.laws.Proper.{accepts_proper}
-use Rattle.drawing.specs.laws.Shift.{shifted_drawing}
-use Rattle.drawing.specs.laws.LeastAssignment.{drawing_least_assignment}
+use Rattle.drawing.proofs.laws.Proper.{accepts_proper}
+use Rattle.drawing.proofs.laws.Shift.{shifted_drawing}
+use Rattle.drawing.proofs.laws.LeastAssignment.{drawing_least_assignment}
 use Rattle.engine.specs.Refusals.{no_drawing}
 use Rattle.engine.specs.Draws.{Drawn, Room, Refuses, DrawsSheet, Draws}
 use Rattle.engine.specs.laws.Refusals.{refused_none}

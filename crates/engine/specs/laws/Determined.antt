@@ -7,7 +7,7 @@ use Rattle.leb128.specs.Format.{Result}
 use Rattle.leb128.specs.Format.Result.{elements}
 use Rattle.drawing.specs.Sheet.{Sheet, sheet_of}
 use Rattle.drawing.specs.Drawing.{total_length}
-use Rattle.drawing.specs.laws.Unique.{leftmost_unique}
+use Rattle.drawing.proofs.laws.Unique.{leftmost_unique}
 use Rattle.engine.specs.Draws.{Drawn, Refuses, Returns, DrawsSheet, Draws}
 use Rattle.engine.specs.Answers.{Same}
 use Rattle.engine.specs.Draws.Refuses.{few_places, few_numbers, none}

@@ -9,7 +9,7 @@ use Rattle.sheet.specs.laws.Sheets.{read_accepted}
 use Rattle.drawing.specs.Sheet.{sheet_of}
 use Rattle.drawing.specs.Drawing.{Drawing}
 use Rattle.drawing.specs.CoordinateFile.{file_numbers, file_bytes}
-use Rattle.drawing.specs.laws.CoordinateFile.{file_written, file_read}
+use Rattle.drawing.proofs.laws.CoordinateFile.{file_written, file_read}
 use Rattle.engine.specs.Draws.{Draws}
 
 module _ (bytes numbers p₀ : List ℕ) (y₀ : List ℤ) (p : List ℕ) (y : List ℤ) (total : ℕ) (e : read_sheet bytes ≡ elements numbers)

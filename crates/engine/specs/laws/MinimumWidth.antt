@@ -17,9 +17,9 @@ use Rattle.sheet.specs.laws.Sheets.{read_accepted, reader_refusals}
 use Rattle.drawing.specs.Sheet.{Sheet, sheet_of, at_width}
 use Rattle.drawing.specs.Widths.{with_width, TotalAt}
 use Rattle.drawing.specs.Proper.{max_total, Proper}
-use Rattle.drawing.specs.laws.Proper.{accepts_proper}
-use Rattle.drawing.specs.laws.Unique.{total_most}
-use Rattle.drawing.specs.laws.Widths.{width_accepts, width_sheet, same_behind, one_total}
+use Rattle.drawing.proofs.laws.Proper.{accepts_proper}
+use Rattle.drawing.proofs.laws.Unique.{total_most}
+use Rattle.drawing.proofs.laws.Widths.{width_accepts, width_sheet, same_behind, one_total}
 use Rattle.engine.specs.Refusals.{no_drawing, WidthRefusal}
 use Rattle.engine.specs.Refusals.WidthRefusal.{read, none}
 use Rattle.engine.specs.Draws.{Drawn, Room, DrawsSheet, Draws}

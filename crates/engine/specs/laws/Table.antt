@@ -14,8 +14,8 @@ use Rattle.drawing.specs.Certificate.{certificate_size}
 use Rattle.drawing.specs.Judged.{judged}
 use Rattle.drawing.specs.Rows.{Outcome, Says, Row, RowHolds, Every}
 use Rattle.drawing.specs.Table.{table}
-use Rattle.drawing.specs.laws.Unique.{leftmost_unique}
-use Rattle.drawing.specs.laws.Table.{sheets}
+use Rattle.drawing.proofs.laws.Unique.{leftmost_unique}
+use Rattle.drawing.proofs.laws.Table.{sheets}
 use Rattle.checker.specs.Verdict.{check_answer}
 use Rattle.checker.specs.laws.Decided.{numbers_decided}
 use Rattle.engine.specs.Refusals.{no_drawing}

@@ -9,8 +9,8 @@ use Rattle.sheet.specs.Reading.{read_sheet}
 use Rattle.sheet.specs.laws.Sheets.{read_accepted}
 use Rattle.drawing.specs.Sheet.{Sheet}
 use Rattle.drawing.specs.Proper.{max_total, Proper}
-use Rattle.drawing.specs.laws.Proper.{accepts_proper}
-use Rattle.drawing.specs.laws.Unique.{total_most}
+use Rattle.drawing.proofs.laws.Proper.{accepts_proper}
+use Rattle.drawing.proofs.laws.Unique.{total_most}
 use Rattle.engine.specs.Draws.{Returns, Draws}
 
 -- of a proper sheet

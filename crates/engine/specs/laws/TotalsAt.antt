@@ -6,7 +6,7 @@ use Rattle.leb128.specs.Source.{refusal}
 use Rattle.drawing.specs.Sheet.{Sheet, at_width}
 use Rattle.drawing.specs.Drawing.{NoDrawing}
 use Rattle.drawing.specs.Widths.{TotalAt}
-use Rattle.drawing.specs.laws.Widths.{one_total}
+use Rattle.drawing.proofs.laws.Widths.{one_total}
 use Rattle.engine.specs.Refusals.{no_drawing}
 use Rattle.engine.specs.Draws.{Drawn, Room, DrawsSheet}
 use Rattle.engine.specs.inside.Widths.{TotalsAt}

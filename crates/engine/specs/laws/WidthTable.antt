@@ -21,9 +21,10 @@ use Rattle.drawing.specs.Drawing.{LeastDrawing, NoDrawing, is_drawing, total_len
 use Rattle.drawing.specs.Certificate.{meets_rules, bound}
 use Rattle.drawing.specs.Judged.{judged}
 use Rattle.drawing.specs.Widths.{with_width}
-use Rattle.drawing.specs.laws.Judged.{judged_least}
-use Rattle.drawing.specs.laws.NoDrawing.{shows_none, no_drawing}
-use Rattle.drawing.specs.laws.Widths.{width_sheet, none_narrower}
+use Rattle.drawing.proofs.laws.Judged.{judged_least}
+use Rattle.drawing.specs.laws.NoDrawing.{shows_none}
+use Rattle.drawing.proofs.laws.NoDrawing.{no_drawing}
+use Rattle.drawing.proofs.laws.Widths.{width_sheet, none_narrower}
 use Rattle.engine.specs.MinimumWidth.{Narrowed, NarrowsSheet, Narrows}
 use Rattle.engine.specs.WidthTable.{Shown, WidthRow, row_answer, EveryNarrowed, width_table}
 use Rattle.engine.specs.WidthTable.Shown.{found, none}

@@ -19,7 +19,7 @@ use Rattle.leb128.specs.laws.Storing.{sets_front, puts_length}
 use Rattle.sheet.specs.Layout.{node_count, LaidOut}
 use Rattle.drawing.specs.Sheet.{sheet_of}
 use Rattle.drawing.specs.Drawing.{coordinate}
-use Rattle.drawing.specs.laws.Proper.{nodes_are}
+use Rattle.drawing.proofs.laws.Proper.{nodes_are}
 use Rattle.report.specs.Limits.{max_text}
 use Rattle.report.specs.Text.{drawing_lines, refusal_line, drawing_text}
 use Rattle.report.specs.laws.Lengths.{drawing_lines_le, any_text_limit, refusal_line_le, refusal_limit}

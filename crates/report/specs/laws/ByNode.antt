@@ -12,7 +12,7 @@ use Rattle.sheet.specs.Nodes.Located.{found, missing}
 use Rattle.sheet.specs.laws.Nodes.{node_here, node_past}
 use Rattle.drawing.specs.Sheet.{pairs_of, layers_of, sheet_of}
 use Rattle.drawing.specs.Drawing.{coordinate}
-use Rattle.drawing.specs.laws.SameDrawings.{length_pairs}
+use Rattle.drawing.proofs.laws.SameDrawings.{length_pairs}
 use Rattle.report.specs.Text.{node_line, node_lines, layer_lines, layers_lines}
 
 -- the line of what stands somewhere

@@ -19,9 +19,9 @@ use Rattle.sheet.specs.Reading.{read_sheet}
 use Rattle.sheet.specs.laws.Sheets.{read_accepted, good_layout}
 use Rattle.drawing.specs.Sheet.{pairs_of, layers_of, sheet_of}
 use Rattle.drawing.specs.Drawing.{coordinate, Drawing, total_length}
-use Rattle.drawing.specs.laws.Proper.{nodes_are, accepts_proper}
-use Rattle.drawing.specs.laws.SameDrawings.{length_pairs, inside_at}
-use Rattle.drawing.specs.laws.Unique.{total_small}
+use Rattle.drawing.proofs.laws.Proper.{nodes_are, accepts_proper}
+use Rattle.drawing.proofs.laws.SameDrawings.{length_pairs, inside_at}
+use Rattle.drawing.proofs.laws.Unique.{total_small}
 use Rattle.report.specs.Decimal.{digit_count, decimal}
 use Rattle.report.specs.Text.{space, newline, total_word, refused_word, at_word, field, total_line, node_line, node_lines}
 use Rattle.report.specs.Text.{layer_lines, layers_lines, drawing_lines, refusal_line, drawing_text}

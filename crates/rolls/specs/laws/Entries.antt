@@ -13,9 +13,9 @@ use Rattle.drawing.specs.Sheet.{Sheet, sheet_of, at_width}
 use Rattle.drawing.specs.Drawing.{NoDrawing, LeastDrawing, total_length}
 use Rattle.drawing.specs.Widths.{TotalAt}
 use Rattle.drawing.specs.Proper.{Proper}
-use Rattle.drawing.specs.laws.Proper.{accepts_proper}
-use Rattle.drawing.specs.laws.Unique.{total_most}
-use Rattle.drawing.specs.laws.Widths.{width_accepts, width_sheet, same_behind, one_total}
+use Rattle.drawing.proofs.laws.Proper.{accepts_proper}
+use Rattle.drawing.proofs.laws.Unique.{total_most}
+use Rattle.drawing.proofs.laws.Widths.{width_accepts, width_sheet, same_behind, one_total}
 use Rattle.rolls.specs.Limits.{no_total}
 use Rattle.rolls.specs.Totals.{Entry, Entries, Leaves, widths_answer, totals_answer, Written}
 use Rattle.rolls.specs.Totals.Entry.{drawn, none}

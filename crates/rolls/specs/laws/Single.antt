@@ -14,7 +14,7 @@ use Rattle.sheet.specs.Reading.{read_sheet}
 use Rattle.sheet.specs.laws.Sheets.{read_accepted}
 use Rattle.drawing.specs.Sheet.{Sheet, sheet_of}
 use Rattle.drawing.specs.Widths.{with_width}
-use Rattle.drawing.specs.laws.Widths.{width_sheet}
+use Rattle.drawing.proofs.laws.Widths.{width_sheet}
 use Rattle.engine.specs.Refusals.{no_drawing}
 use Rattle.engine.specs.Draws.{Drawn, Room, DrawsSheet, Draws}
 use Rattle.engine.specs.inside.Widths.{TotalsAt}

@@ -26,9 +26,10 @@ use Rattle.drawing.specs.Drawing.{LeastDrawing, NoDrawing, is_drawing, total_len
 use Rattle.drawing.specs.Certificate.{meets_rules, bound}
 use Rattle.drawing.specs.Judged.{judged}
 use Rattle.drawing.specs.Widths.{with_width}
-use Rattle.drawing.specs.laws.Judged.{judged_least}
-use Rattle.drawing.specs.laws.NoDrawing.{shows_none, no_drawing}
-use Rattle.drawing.specs.laws.Widths.{width_sheet}
+use Rattle.drawing.proofs.laws.Judged.{judged_least}
+use Rattle.drawing.specs.laws.NoDrawing.{shows_none}
+use Rattle.drawing.proofs.laws.NoDrawing.{no_drawing}
+use Rattle.drawing.proofs.laws.Widths.{width_sheet}
 use Rattle.rolls.specs.Limits.{max_widths}
 use Rattle.rolls.specs.Totals.{Entry, first_outside, Written}
 use Rattle.rolls.specs.Totals.Entry.{drawn, none}

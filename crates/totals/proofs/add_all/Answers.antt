@@ -1,5 +1,5 @@
 -- `totals::add_all` meets its contract: the loop's invariant is `Adding`.
-use Prim.Native.Nat.{ℕ, ◌+◌, ◌-◌, min}
+use Prim.Native.Nat.{ℕ, ◌+◌, min}
 use mathlib.Core.Path.{◌∙◌, ap}
 use native.Mathlib.Omega.{arith}
 use Rattle.leb128.specs.Words.{u32_most}

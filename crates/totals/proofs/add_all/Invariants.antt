@@ -6,7 +6,7 @@ use Rattle.totals.proofs.laws.Adding.{Adding}
 use Rattle.totals.proofs.add_all.Given as goal
 
 abbrev pub invariant-loop-i : goal.invariant-loop-i
-invariant-loop-i l = Adding (λ l.i. counted_at l.places (edge_from l.i l.edges)) l.count l.i l.sum
+invariant-loop-i l = Adding (λ k. counted_at l.places (edge_from k l.edges)) l.count l.i l.sum
 
 abbrev pub decreases-loop-i : goal.decreases-loop-i
 decreases-loop-i l = l.count - l.i

@@ -2,7 +2,6 @@
 use Prim.Native.Nat.{ℕ, ◌+◌, min}
 use mathlib.Core.Path.{◌∙◌, ap}
 use native.Mathlib.Omega.{arith}
-use Rattle.totals.specs.RunningSums.{layer_start}
 use Rattle.leb128.specs.Words.{u32_most}
 use Rattle.totals.proofs.laws.Starts.{starts_node}
 use Rattle.totals.proofs.laws.LayerSums.{walk_begin, walk_there, walk_less, walk_next, walk_runs}

@@ -26,12 +26,11 @@ pub loop-layer-smaller : goal.loop-layer-smaller
 loop-layer-smaller c = omega arith
 
 pub loop-layer-preserved : goal.loop-layer-preserved
-loop-layer-preserved c =
-    (
-      layers_next c.args.first.now c.args.places.now c.args.edges.now (omega arith) c.add_layer-sum.ensures,
-      omega (arith, c.loop-layer.invariant.1),
-      rw c.put_sum.ensures (sums_next c.loop-layer.invariant.2 c.add_layer-sum.result (omega arith) c.loop-layer.invariant.1 c.add_layer-sum.ensures),
-    )
+loop-layer-preserved c = (
+  layers_next c.args.first.now c.args.places.now c.args.edges.now (omega arith) c.add_layer-sum.ensures,
+  omega (arith, c.loop-layer.invariant.1),
+  rw c.put_sum.ensures (sums_next c.loop-layer.invariant.2 c.add_layer-sum.result (omega arith) c.loop-layer.invariant.1 c.add_layer-sum.ensures),
+)
 
 pub shape_of-sums : goal.shape_of-sums
 shape_of-sums c = c.loop-layer.invariant.2.size

@@ -2,14 +2,14 @@
 -- And which edges can be chained.
 use Prim.Native.Nat.{ℕ, ◌+◌, ◌/◌, ◌≤◌, ◌<◌}
 use mathlib.Core.Path.{◌≡◌, refl, sym, ◌∙◌, ap, subst}
-use mathlib.Core.Bool.{Bool, true, false, not}
+use mathlib.Core.Bool.{Bool, true, false}
 use mathlib.Core.Logic.{⊎_elim}
 use mathlib.Core.List.{List}
 use native.Mathlib.Omega.{arith}
 use lib.Dec.{T, leb, le→leb, ltb, ltb→lt, lt→ltb}
 use lib.ListN.{length, get_or, set, replicate, length-set, length-replicate, get_or-replicate}
 use lib.Seq.{get_or-set_same, get_or-set_other}
-use borrow.Author.Tests.{lt-leb, not-false}
+use borrow.Author.Tests.{lt-leb}
 use Rattle.leb128.specs.laws.Cases.{eq_or_ne}
 use Rattle.sheet.specs.Limits.{max_nodes, max_edges}
 use Rattle.network.specs.Sums.{below}
@@ -132,6 +132,6 @@ all_chained starts s c =
     (and_both (few (length starts) s) (below (length s / stride) (lies (length starts) s)) (le→leb (length s / stride) max_edges c.few)
     (at_below (length s / stride) (lies (length starts) s) (λ i h. lt→ltb (lower_of s i) (length starts) (c.low i h)))))
 
--- a test of which the code finds that it does not fail
-pub passes : {a b : Bool} → a ≡ b → not a ≡ false → T b
-passes {a} e f = subst T (sym (not-false a f) ∙ e) tt
+-- a test of which the code finds that it holds
+pub passes : {a b : Bool} → a ≡ b → a ≡ true → T b
+passes e f = subst T (sym f ∙ e) tt

@@ -21,8 +21,8 @@ use Rattle.drawing.specs.Proper.{proper_edge}
 use Rattle.drawing.specs.Arcs.{edge_arc}
 use Rattle.drawing.specs.laws.Carriers.{at_listed}
 use Rattle.drawing.specs.laws.Traces.{traces_length}
-use Rattle.drawing.specs.laws.ProperEdges.{edge_parts, proper_traces}
-use Rattle.drawing.specs.laws.RunningSums.{starts_rise, starts_zero, some_layer, layer_sum, sums_first}
+use Rattle.drawing.proofs.laws.ProperEdges.{edge_parts, proper_traces}
+use Rattle.drawing.proofs.laws.RunningSums.{starts_rise, starts_zero, some_layer, layer_sum, sums_first}
 use Rattle.arcs.specs.declared.Counts.{Counts}
 use Rattle.leb128.specs.Words.{u32_most}
 use Rattle.totals.specs.Lengths.{lengths_from}

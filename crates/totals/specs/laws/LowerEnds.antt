@@ -6,7 +6,7 @@ use Rattle.std.proofs.lemmas.Bool.{lt-leb}
 use Rattle.leb128.specs.laws.Cases.{lt_or_le}
 use Rattle.network.specs.Packed.{stride}
 use Rattle.network.specs.laws.SumsTo.{sum_to_eq, sum_to_le, sum_to_zero, sum_to_add}
-use Rattle.drawing.specs.laws.RunningSums.{zero_all, later_less}
+use Rattle.drawing.proofs.laws.RunningSums.{zero_all, later_less}
 use Rattle.packed.specs.Ends.{edge_from, lower_at}
 use Rattle.totals.specs.Lengths.{counted_at, lengths_of, lengths_where, lengths_from, lengths_between}
 

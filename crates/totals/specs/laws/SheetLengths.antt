@@ -13,12 +13,12 @@ use Rattle.drawing.specs.Traces.{traces}
 use Rattle.drawing.specs.Drawing.{coordinate, aligned, edge_aligned, edge_length, weighted_length, total_length, total_from, Drawing}
 use Rattle.drawing.specs.Arcs.{edge_arc}
 use Rattle.drawing.specs.Proper.{proper_edge, Proper}
-use Rattle.drawing.specs.laws.AlignedTraces.{aligned_traces}
+use Rattle.drawing.proofs.laws.AlignedTraces.{aligned_traces}
 use Rattle.drawing.specs.Carriers.{At}
 use Rattle.drawing.specs.laws.Carriers.{at_listed}
 use Rattle.drawing.specs.Carriers.At.{here, later}
-use Rattle.drawing.specs.laws.ProperEdges.{edge_parts, proper_traces}
-use Rattle.drawing.specs.laws.RunningSums as drawing
+use Rattle.drawing.proofs.laws.ProperEdges.{edge_parts, proper_traces}
+use Rattle.drawing.proofs.laws.RunningSums as drawing
 use Rattle.leb128.specs.Words.{u32_most}
 use Rattle.arcs.specs.Held.{Packs}
 use Rattle.arcs.specs.laws.PackedEdges.{packed_edge}

@@ -1,5 +1,5 @@
 -- `totals::chains::chain` meets its contract: the loop's invariant is `Chained`.
-use Prim.Native.Nat.{ℕ, ◌+◌, ◌/◌, ◌-◌}
+use Prim.Native.Nat.{ℕ, ◌+◌, ◌/◌}
 use mathlib.Core.Path.{◌≡◌, sym, ◌∙◌, ap, subst}
 use native.Mathlib.Omega.{arith}
 use lib.ListN.{length, get_or}

@@ -7,7 +7,7 @@ use Rattle.totals.proofs.lengths.counted.Goals as goal
 
 pub overflow_mul-result : goal.overflow_mul-result
 overflow_mul-result c =
-    omega (arith, product_small c.edge_weight-weight.result c.distance.result (omega (arith, c.edge_weight-weight.type-inv)) c.distance.ensures.fits)
+    omega (arith, product_small c.edge_weight-weight.result c.distance.result (omega (arith, c.edge_weight-weight.type_inv)) c.distance.ensures.fits)
 
 pub returns : goal.returns
 returns c =

@@ -1,5 +1,4 @@
 -- `totals::starts::put_starts` meets its contract: the loop's invariant is `StartsTo`.
-use Prim.Native.Nat.{◌-◌}
 use mathlib.Core.Path.{refl, ◌∙◌}
 use native.Mathlib.Omega.{arith}
 use lib.ListN.{length-set}

@@ -1,5 +1,4 @@
 -- `totals::starts::rising` meets its contract: the loop's invariant is `RisingTo`.
-use Prim.Native.Nat.{◌-◌}
 use native.Mathlib.Omega.{arith}
 use Rattle.totals.proofs.laws.Starts.{not_zero, rising_begin, rising_next, rising_fails, rising_end}
 use Rattle.totals.proofs.starts.rising.Goals as goal
