@@ -19,7 +19,7 @@ use Rattle.checker.specs.inside.Sizes.{i64_limit, amount_size, term_size}
 
 -- a number read back from its bits, where its size is small
 pub read : (z : ℤ) → nat_abs z < i64_limit → to_z w64 (of_z w64 z) ≡ z
-read z h = to_z-of_z (size_fits h)
+read z h = to_z-of_z {w = w64} (size_fits h)
 
 -- a result passed on
 pub pass : {r z : ℤ} → r ≡ z → nat_abs z < i64_limit → to_z w64 (of_z w64 r) ≡ z
@@ -43,7 +43,7 @@ amount_negated y h e = pass (e ∙ ap neg_ℤ (element w32 y h)) (omega (arith, 
 
 -- an amount read back as a number of 64 bits
 pub widened : {a : ℤ} → SFits w32 a → to_z w64 (of_z w64 (to_z w32 (of_z w32 a))) ≡ a
-widened f = ap (λ (x : ℤ). to_z w64 (of_z w64 x)) (to_z-of_z f) ∙ to_z-of_z (sfits_widen tt f)
+widened f = ap (λ (x : ℤ). to_z w64 (of_z w64 x)) (to_z-of_z f) ∙ to_z-of_z {w = w64} (sfits_widen {w = w32} {w' = w64} tt f)
 
 -- which it fits
 pub widened_fits : {a : ℤ} → SFits w32 a → SFits w64 (to_z w32 (of_z w32 a))

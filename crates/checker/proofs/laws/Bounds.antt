@@ -1,4 +1,4 @@
--- The loop of the bound: the sum so far, in its bits, with a size for each term.
+-- The loop of the bound: the sum so far, with a size for each term.
 use Prim.Native.Nat.{ℕ, ◌+◌, ◌*◌, ◌≤◌, ◌<◌}
 use mathlib.Core.Path.{◌≡◌, sym, ◌∙◌, ap, ap₂}
 use mathlib.Core.List.{List}
@@ -20,44 +20,38 @@ use Rattle.checker.proofs.laws.Bits.{read}
 abbrev bound_to : List ℕ → List ℤ → ℕ → ℤ
 bound_to a y i = sum bound_term (upto i (flow_at a y))
 
--- it stands in the result, and is small
-pub record Bounding (a : List ℕ) (y : List ℤ) (n i result : ℕ) : Type 0 where
+-- it is the result, and is small
+pub record Bounding (a : List ℕ) (y : List ℤ) (n i : ℕ) (result : ℤ) : Type 0 where
   pub turns : i ≤ n
-  pub is : result ≡ of_z w64 (bound_to a y i)
+  pub is : result ≡ bound_to a y i
   pub small : nat_abs (bound_to a y i) ≤ i * term_size
 
 -- before the first flow
-pub bounding_begin : (a : List ℕ) (y : List ℤ) (n : ℕ) → Bounding a y n 0 (of_z w64 (pos 0))
+pub bounding_begin : (a : List ℕ) (y : List ℤ) (n : ℕ) → Bounding a y n 0 (pos 0)
 bounding_begin a y n = record {
   turns = omega arith;
-  is = ap (of_z w64) (sym (sum_none bound_term (flow_at a y)));
+  is = sym (sum_none bound_term (flow_at a y));
   small = omega (arith, ap nat_abs (sum_none bound_term (flow_at a y)));
 }
 
-module _ {a : List ℕ} {y : List ℤ} {n i result : ℕ} (p : Bounding a y n i result) (few : n ≤ max_arcs) where
-  -- the result as a number
-  result_is : to_z w64 result ≡ bound_to a y i
-  result_is = ap (to_z w64) p.is ∙ read (bound_to a y i) (omega (arith, p.turns, p.small))
-
+module _ {a : List ℕ} {y : List ℤ} {n i : ℕ} {result : ℤ} (p : Bounding a y n i result) (few : n ≤ max_arcs) where
   -- after the last flow
-  pub bounding_end : n ≤ i → (to_z w64 result ≡ bound_to a y n) × (nat_abs (to_z w64 result) ≤ bound_size)
+  pub bounding_end : n ≤ i → (result ≡ bound_to a y n) × (nat_abs result ≤ bound_size)
   bounding_end h =
       let e : i ≡ n = omega (arith, p.turns) in
-      (result_is ∙ ap (bound_to a y) e, omega (arith, ap nat_abs result_is, p.small, p.turns))
+      (p.is ∙ ap (bound_to a y) e, omega (arith, ap nat_abs p.is, p.small, p.turns))
 
   -- a term less
   module _ {w : ℤ} (is : w ≡ get_or y i (pos 0) *ℤ (arc_at a i).kink) (small : nat_abs w ≤ term_size) where
     -- the difference does not wrap
-    pub bounding_fits : nat_abs (to_z w64 result) + nat_abs (to_z w64 (of_z w64 w)) < i64_limit
-    bounding_fits = omega (arith, ap nat_abs result_is, ap nat_abs (read w (omega arith)), p.small, p.turns)
+    pub bounding_fits : nat_abs result + nat_abs (to_z w64 (of_z w64 w)) < i64_limit
+    bounding_fits = omega (arith, ap nat_abs p.is, ap nat_abs (read w (omega arith)), p.small, p.turns)
 
     -- one flow more
-    pub bounding_next : {r : ℤ} → i < n → r ≡ to_z w64 result -ℤ to_z w64 (of_z w64 w) → Bounding a y n (i + 1) (of_z w64 r)
+    pub bounding_next : {r : ℤ} → i < n → r ≡ result -ℤ to_z w64 (of_z w64 w) → Bounding a y n (i + 1) r
     bounding_next {r} l e = record {
       turns = omega arith;
-      is =
-          ap (of_z w64)
-          (e ∙ ap₂ ◌+ℤ◌ result_is (ap neg_ℤ (read w (omega arith) ∙ is)) ∙ sym (sum_next bound_term (flow_at a y) i));
+      is = e ∙ ap₂ ◌+ℤ◌ p.is (ap neg_ℤ (read w (omega arith) ∙ is)) ∙ sym (sum_next bound_term (flow_at a y) i);
       small = rw (sum_next bound_term (flow_at a y) i) (omega (
         arith,
         size_add (bound_to a y i) (bound_term (flow_at a y i)),

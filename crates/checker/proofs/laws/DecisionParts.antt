@@ -1,14 +1,14 @@
 -- The decision on packed arcs, part by part, and the code's total, which is the network's where the places are a drawing.
 use Prim.Native.Nat.{ℕ, ◌-◌, ◌*◌, ◌≤◌, min}
 use mathlib.Core.Path.{◌≡◌, sym, ◌∙◌, ap, ap₂, subst}
-use mathlib.Core.Bool.{Bool, true, false, not, ◌&&◌}
+use mathlib.Core.Bool.{Bool, true, false, ◌&&◌}
 use mathlib.Core.List.{List}
 use native.Mathlib.Omega.{arith}
 use lib.Dec.{T}
 use lib.IntN.{ℤ, pos}
 use lib.ListN.{length, take, length-map}
 use lib.Seq.{length-take-le}
-use borrow.Author.Tests.{eq-eqb, not-true, not-false}
+use borrow.Author.Tests.{eq-eqb}
 use Rattle.network.specs.Integers.{eqZ}
 use Rattle.network.specs.Sums.{all, sum, upto}
 use Rattle.network.specs.Network.{Network, integers, legal, is_feasible, total}
@@ -79,22 +79,22 @@ module _ {f a : List ℕ} {c : Counts} (h : Holds f a c) (p : List ℕ) (y : Lis
   -- the code's tests, one after the other
   module _ {legal : Bool} (l : legal ≡ legals) where
     -- an arc is not legal
-    pub not_legal : not legal ≡ true → false ≡ table_decision a c p y
-    not_legal t = sym (parts ∙ rw (sym l ∙ not-true legal t))
+    pub not_legal : legal ≡ false → false ≡ table_decision a c p y
+    not_legal t = sym (parts ∙ rw (sym l ∙ t))
 
-    module _ (t : not legal ≡ false) {allowed : Bool} (w : allowed ≡ alloweds) where
+    module _ (t : legal ≡ true) {allowed : Bool} (w : allowed ≡ alloweds) where
       -- a flow is not within its limits
-      pub not_allowed : not allowed ≡ true → false ≡ table_decision a c p y
-      not_allowed u = sym (parts ∙ rw (sym l ∙ not-false legal t, sym w ∙ not-true allowed u))
+      pub not_allowed : allowed ≡ false → false ≡ table_decision a c p y
+      not_allowed u = sym (parts ∙ rw (sym l ∙ t, sym w ∙ u))
 
-      module _ (u : not allowed ≡ false) {balanced : Bool} (b : balanced ≡ balances) where
+      module _ (u : allowed ≡ true) {balanced : Bool} (b : balanced ≡ balances) where
         -- a node is not in balance
-        pub not_balanced : not balanced ≡ true → false ≡ table_decision a c p y
-        not_balanced v = sym (parts ∙ rw (sym l ∙ not-false legal t, sym w ∙ not-false allowed u, sym b ∙ not-true balanced v))
+        pub not_balanced : balanced ≡ false → false ≡ table_decision a c p y
+        not_balanced v = sym (parts ∙ rw (sym l ∙ t, sym w ∙ u, sym b ∙ v))
 
         -- the total and the bound decide
-        pub by_bound : not balanced ≡ false → {r : ℕ} {z : ℤ} → r ≡ min u32_most (lengths_of p (take (stride * c.edges - 0) a))
+        pub by_bound : balanced ≡ true → {r : ℕ} {z : ℤ} → r ≡ min u32_most (lengths_of p (take (stride * c.edges - 0) a))
             → z ≡ sum bound_term (upto c.arcs (flow_at a y)) → eqZ (pos r) z ≡ table_decision a c p y
         by_bound v q z =
-            ap₂ eqZ (total_is h p long (sym l ∙ not-false legal t) q) z
-            ∙ sym (parts ∙ rw (sym l ∙ not-false legal t, sym w ∙ not-false allowed u, sym b ∙ not-false balanced v))
+            ap₂ eqZ (total_is h p long (sym l ∙ t) q) z
+            ∙ sym (parts ∙ rw (sym l ∙ t, sym w ∙ u, sym b ∙ v))

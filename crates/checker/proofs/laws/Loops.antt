@@ -1,13 +1,12 @@
 -- A loop over a test: every element so far passes, or one fails. And one more term of a sum.
 use Prim.Native.Nat.{ℕ, zero, suc, ◌+◌, ◌≤◌, ◌<◌}
 use mathlib.Core.Path.{◌≡◌, refl, sym, ◌∙◌, ap, ap₂}
-use mathlib.Core.Bool.{Bool, true, false, not, ◌&&◌, and-true, and-false, and_comm}
+use mathlib.Core.Bool.{Bool, true, false, ◌&&◌, and-true, and-false, and_comm}
 use mathlib.Core.List.{[], ◌∷◌}
 use native.Mathlib.Decide.{ℕ_discrete}
 use native.Mathlib.Numerals.{add-one}
 use native.Mathlib.Omega.{arith}
 use lib.IntN.{ℤ, pos, ◌+ℤ◌, +ℤ_idr}
-use borrow.Author.Tests.{not-true, not-false}
 use Rattle.network.specs.Sums.{all, sum, below, upto}
 use Rattle.network.specs.laws.Tests.{all_append}
 use Rattle.network.specs.laws.Sums.{sum_append}
@@ -50,12 +49,12 @@ module _ {A : Type 0} where
 
   module _ {t : A → Bool} {f : ℕ → A} {n i : ℕ} (p : Passing t f n i) where
     -- the code's test of the next one passes
-    pub passing_next : {b : Bool} → i < n → b ≡ t (f i) → not b ≡ false → Passing t f n (i + 1)
-    passing_next {b} h e x = record { turns = omega arith; passed = all_next t f i ∙ ap₂ ◌&&◌ p.passed (sym e ∙ not-false b x) }
+    pub passing_next : {b : Bool} → i < n → b ≡ t (f i) → b ≡ true → Passing t f n (i + 1)
+    passing_next h e x = record { turns = omega arith; passed = all_next t f i ∙ ap₂ ◌&&◌ p.passed (sym e ∙ x) }
 
     -- it fails
-    pub passing_fails : {b : Bool} → i < n → b ≡ t (f i) → not b ≡ true → false ≡ all t (upto n f)
-    passing_fails {b} h e x = sym (all_false t f n i h (sym e ∙ not-true b x))
+    pub passing_fails : {b : Bool} → i < n → b ≡ t (f i) → b ≡ false → false ≡ all t (upto n f)
+    passing_fails h e x = sym (all_false t f n i h (sym e ∙ x))
 
     -- there is no next one
     pub passing_end : n ≤ i → true ≡ all t (upto n f)

@@ -9,7 +9,7 @@ use lib.Dec.{eqb}
 use lib.IntN.{ℤ, pos, negsuc, neg_ℤ, ◌-ℤ◌}
 use lib.ListN.{get_or}
 use lib.Signed.{le_z}
-use borrow.Author.Tests.{eq-eqb, ne_eqb, not-true, not-false}
+use borrow.Author.Tests.{eq-eqb, ne_eqb}
 use Rattle.network.specs.Network.{unlimited, limit, Arc, potential, integers, past_kink, finite, at_least, at_most, legal, legal_at}
 use Rattle.network.specs.Flows.{allowed}
 use Rattle.network.specs.Packed.{tail_at, head_at, kink_at, low_at, high_at, stride, kink_zero, flow_zero, low_none, high_none, low_of}
@@ -151,15 +151,15 @@ module _ (a : List ℕ) (y : List ℤ) (i : ℕ) {x : ℤ} {n : ℕ} {b : Bool} 
   at_low = test ∙ ap₂ (λ (y : ℤ) (n : ℕ). at_least y (low_of n)) is low.is
 
   -- where it fails, the flow is not allowed
-  pub below_low : not b ≡ true → false ≡ allowed (flow_at a y i)
+  pub below_low : b ≡ false → false ≡ allowed (flow_at a y i)
   below_low t =
       sym
-      (ap (λ (c : Bool). c && at_most (get_or y i (pos 0)) (high_of (number a i high_at))) (sym at_low ∙ not-true b t))
+      (ap (λ (c : Bool). c && at_most (get_or y i (pos 0)) (high_of (number a i high_at))) (sym at_low ∙ t))
 
   -- where it passes, the test of the high limit decides
-  pub above_low : not b ≡ false → {x : ℤ} {n : ℕ} {r : Bool} → x ≡ get_or y i (pos 0) → Wide n (number a i high_at)
+  pub above_low : b ≡ true → {x : ℤ} {n : ℕ} {r : Bool} → x ≡ get_or y i (pos 0) → Wide n (number a i high_at)
       → r ≡ at_most x (high_of n)
       → r ≡ allowed (flow_at a y i)
   above_low t same high e =
       e ∙ ap₂ (λ (y : ℤ) (n : ℕ). at_most y (high_of n)) same high.is
-      ∙ sym (ap (λ (c : Bool). c && at_most (get_or y i (pos 0)) (high_of (number a i high_at))) (sym at_low ∙ not-false b t))
+      ∙ sym (ap (λ (c : Bool). c && at_most (get_or y i (pos 0)) (high_of (number a i high_at))) (sym at_low ∙ t))
