@@ -21,4 +21,4 @@ layer_at v s = record { first = v; pairs = pairs_of (get_or s nodes_at 0 - 1) v 
 
 -- the arcs of all layers of a sheet, from its numbers
 abbrev pub layers_arcs : List ℕ → ℕ → ℕ → ℕ → List Arc
-layers_arcs s layers width ground = flat_map (layer_arcs width ground) (layers_of layers 0 (drop first_layer_at s))
+layers_arcs s layers width ground_node = flat_map (layer_arcs width ground_node) (layers_of layers 0 (drop first_layer_at s))
