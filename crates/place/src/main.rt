@@ -14,13 +14,18 @@ use std::io::{Read, Write};
 // later one.
 const INPUT_BYTES: usize = MAX_BYTES + 1;
 
-// Says on the standard error what failed, and why in the system's words, without the number that std puts behind them.
+// The system's words for an error, without the number that std puts behind them.
+fn words(said: &str) -> &str {
+    match said.rsplit_once(" (os error ") {
+        Some((front, _)) => front,
+        None => said,
+    }
+}
+
+// Says on the standard error what failed, and why.
 fn complain(rt: &HostRuntime, what: &str, error: io::Error) -> io::Result<()> {
     let said = format!(in rt.alloc(); "{error}")?;
-    let why = match said.as_str().rsplit_once(" (os error ") {
-        Some((words, _)) => words,
-        None => said.as_str(),
-    };
+    let why = words(said.as_str());
     eprintln!(rt; "place: {what}: {why}")
 }
 

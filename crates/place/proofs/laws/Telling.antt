@@ -19,7 +19,7 @@ use Rattle.sheet.specs.laws.Sheets.{read_accepted, good_layout}
 use Rattle.drawing.specs.Sheet.{sheet_of}
 use Rattle.drawing.specs.Drawing.{coordinate}
 use Rattle.drawing.proofs.laws.Proper.{nodes_are}
-use Rattle.engine.specs.Draws.{Drawn, Draws, drawn_of}
+use Rattle.engine.specs.Draws.{Draws, drawn_of}
 use Rattle.engine.specs.declared.Answer.{Answer as EngineAnswer}
 use Rattle.engine.specs.declared.Answer.TheVariants as engine
 use Rattle.report.specs.Limits.{max_text}

@@ -1,0 +1,17 @@
+-- `place::answer::tell` meets its contract: either text fits the slice, so all of it is written.
+use native.Mathlib.Omega.{arith}
+use Rattle.place.proofs.laws.Telling.{told_drawing, told_refusal}
+use Rattle.place.proofs.answer.tell.Goals as goal
+
+pub returns-in-Drawn : goal.returns-in-Drawn
+returns-in-Drawn c =
+    told_drawing c.args.bytes.now c.args.places.now c.args.text.now _ c.args.drawn
+    c.drawing_text.result c.requires.max_text_in_bounds c.requires.answered c.written.ensures c.in-Drawn.is
+    (λ v. omega (arith, c.type_inv.places v)) (omega arith) c.drawing_text.ensures.answer
+    c.drawing_text.ensures.slice
+
+pub returns-in-Refused : goal.returns-in-Refused
+returns-in-Refused c =
+    told_refusal c.args.bytes.now c.args.places.now c.args.text.now _ c.args.drawn
+    c.refusal_text.result c.requires.max_text_in_bounds c.requires.answered c.written-in-Refused.ensures c.in-Refused.is (omega arith)
+    (omega arith) c.refusal_text.ensures.answer c.refusal_text.ensures.slice
