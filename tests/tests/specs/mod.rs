@@ -55,6 +55,9 @@ impl Library {
                 .any(|end| path.ends_with(end))
         };
         while let Some(path) = paths.pop() {
+            if path.ends_with("/out") {
+                continue; // what the kit made
+            }
             if root.join(&path).is_dir() {
                 for entry in fs::read_dir(root.join(&path)).expect("a folder") {
                     let name = entry.expect("an entry of a folder").file_name();
@@ -79,7 +82,6 @@ impl Library {
     fn target(&self, (path, name): &Import, within: &str) -> Definition {
         let name = name.as_deref().unwrap_or(within);
         let (home, inner) = path.split_once('.').expect("a path");
-        let home = home.trim_end_matches("·specs").trim_end_matches("·proofs");
         let file = |inner: &str| format!("crates/{home}/{}.antt", inner.replace('.', "/"));
         let (file, kind) = match inner.rsplit_once('.') {
             Some((outer, kind)) if !self.items.contains_key(&file(inner)) => (file(outer), kind),

@@ -29,8 +29,10 @@ pub fn contracts(library: &Library) -> Vec<Source> {
                 let (name, _) = function.split_once('(').expect("parameters");
                 calls.push((file.clone(), name.to_string()));
             } else if let Some(path) = line.strip_prefix("pub use ") {
-                let (module, name) = path.trim_end_matches(';').split_once("::").expect("a name");
-                calls.push((format!("{folder}{module}.rt"), name.to_string()));
+                let (module, names) = path.trim_end_matches(';').split_once("::").expect("a name");
+                for name in names.trim_matches(['{', '}']).split(", ") {
+                    calls.push((format!("{folder}{module}.rt"), name.to_string()));
+                }
             }
         }
     }
@@ -51,7 +53,7 @@ fn laws(library: &Library, called: &str, before: &str) -> Vec<String> {
     let clear = before.contains("laws") || !library.items.keys().any(is_other);
     let end = match called.ends_with(".antt") {
         true => format!("/{called}"),
-        false => format!("/specs/laws/{called}.antt"),
+        false => format!("/laws/{called}.antt"),
     };
     let meant = called.contains("laws/") || clear && called != CASE;
     let files = library.items.keys();
