@@ -23,10 +23,10 @@ fn contracts_and_named_theorems_cite_definitions_alone() {
 
 /// Definitions of a small library, one of which cites `inside`.
 const ENDS: &str = "
-use Rattle·wire·specs.specs.inside.Steps.{next-step}
+use Rattle.wire.specs.inside.Steps.{next_step}
 -- the next end
-abbrev pub next-end : ℕ → ℕ
-next-end n = next-step n
+abbrev pub next_end : ℕ → ℕ
+next_end n = next_step n
 pub data Side : Type 0 where
   left : Side
   right : ℕ → Side
@@ -34,13 +34,13 @@ pub data Side : Type 0 where
 
 /// A definition that only private contracts may cite.
 const STEPS: &str = "
-unfoldable pub next-step : ℕ → ℕ
-next-step n = suc n
+unfoldable pub next_step : ℕ → ℕ
+next_step n = suc n
 ";
 
 /// Two theorems, one of which cites definitions that stand beside it.
 const SIDES: &str = "
-use Rattle·wire·specs.specs.Ends.{Side, left as first-side}
+use Rattle.wire.specs.Ends.{Side, left as first_side}
 pub record Opposite (a b : Side) : Type 0 where
   pub differ : a ≡ b → ⊥
 
@@ -50,27 +50,27 @@ module _ (start : ℕ)
   here = side
 
   -- a side is not its opposite
-  pub two-sides : (a : Side) → Opposite here a
-      → a ≡ first-side → ⊥
+  pub two_sides : (a : Side) → Opposite here a
+      → a ≡ first_side → ⊥
   unfolding here
-  two-sides a o e = o .differ e
+  two_sides a o e = o.differ e
 
-pub one-side : (here : Side) → here ≡ here
-one-side here = refl
+pub one_side : (here : Side) → here ≡ here
+one_side here = refl
 ";
 
 /// A public call and a private function, with contracts that cite the same.
 const CALL: &str = "
-ghost use Rattle·wire·specs.specs.Ends.{«next-end»};
-ghost use Rattle·wire·specs.specs.inside.Steps.{«next-step»};
+ghost use Rattle.wire.specs.Ends.{next_end};
+ghost use Rattle.wire.specs.inside.Steps.{«next_step»};
 pub extern \"C\" fn step(n: usize) -> usize
-    ensures answer { λ r. ⌜ r ≡
-        next-step n ⌝ }
+    ensures answer { result ≡
+        next_step n }
 {
     hidden(n)
 }
 fn hidden(n: usize) -> usize
-    ensures { λ r. ⌜ r ≡ next-step n ⌝ }
+    ensures { result ≡ next_step n }
 {
     n + 1
 }
@@ -94,10 +94,10 @@ fn found(file: &str, text: &str) -> Vec<String> {
 #[test]
 fn contracts_that_cite_inside_are_found() {
     let file = "crates/wire/src/lib.rt";
-    let line = format!("{file}: call step cites next-step (crates/wire/specs/inside/Steps.antt)");
-    let citing = |name: &str| found(file, &CALL.replace("next-step n", name));
-    assert_eq!(citing("next-step n"), [line.as_str()]);
-    assert_eq!(citing("next-end n"), [format!("{line} through next-end")]);
+    let line = format!("{file}: call step cites next_step (crates/wire/specs/inside/Steps.antt)");
+    let citing = |name: &str| found(file, &CALL.replace("next_step n", name));
+    assert_eq!(citing("next_step n"), [line.as_str()]);
+    assert_eq!(citing("next_end n"), [format!("{line} through next_end")]);
     assert_eq!(citing("suc n"), [""; 0]);
 }
 
@@ -105,21 +105,21 @@ fn contracts_that_cite_inside_are_found() {
 fn named_theorems_that_cite_laws_are_found() {
     let file = "crates/wire/specs/laws/Sides.antt";
     let lines =
-        ["Opposite", "here"].map(|name| format!("{file}: theorem two-sides cites {name} ({file})"));
+        ["Opposite", "here"].map(|name| format!("{file}: theorem two_sides cites {name} ({file})"));
     for page in [
-        "(`Sides`: `two-sides`)",
+        "(`Sides`: `two_sides`)",
         "| laws `Sides` |",
         &format!("`{file}`"),
     ] {
         assert_eq!(found("README.md", page), lines, "{page}");
     }
-    assert_eq!(found("README.md", "(`Sides`: `one-side`)"), [""; 0]);
+    assert_eq!(found("README.md", "(`Sides`: `one_side`)"), [""; 0]);
 }
 
 #[test]
-#[should_panic(expected = "wire·specs.specs.inside.Steps has no last-step")]
+#[should_panic(expected = "wire.specs.inside.Steps has no last_step")]
 fn names_that_are_not_there_are_told() {
-    found("crates/wire/src/lib.rt", &CALL.replace("next-", "last-"));
+    found("crates/wire/src/lib.rt", &CALL.replace("next_", "last_"));
 }
 
 #[test]

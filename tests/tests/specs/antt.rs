@@ -104,7 +104,7 @@ pub fn items(text: &str) -> Vec<Item> {
 pub type Import = (String, Option<String>);
 
 /// The crates of the kit.
-const KIT: [&str; 3] = ["io.", "libc.", "os."];
+const KIT: [&str; 2] = ["io.", "std."];
 
 /// What a file uses of the library: `use PATH.{a, b as c}` or `use PATH as d`, in code `ghost use`.
 /// What is of the kit or declared by the code is left out.
@@ -112,7 +112,7 @@ pub fn scope(text: &str) -> BTreeMap<String, Import> {
     let mut scope = BTreeMap::new();
     let kit = |used: &str| KIT.iter().any(|name| used.starts_with(name));
     let lines = text.lines().map(|line| line.trim_start_matches("ghost "));
-    let used = lines.filter_map(|line| line.strip_prefix("use Rattle·"));
+    let used = lines.filter_map(|line| line.strip_prefix("use Rattle."));
     for used in used.filter(|used| !kit(used) && !used.contains(".declared.")) {
         let used = used.trim_end_matches(';');
         let list = used
@@ -133,7 +133,7 @@ pub fn scope(text: &str) -> BTreeMap<String, Import> {
 }
 
 /// What stands between words; none of it is a name.
-const MARKS: [&str; 9] = ["(", ")", "{", "}", ",", ";", ":", "⌜", "⌝"];
+const MARKS: [&str; 7] = ["(", ")", "{", "}", ",", ";", ":"];
 
 /// The words and marks of a text.
 fn words(text: &str) -> Vec<String> {
@@ -144,8 +144,9 @@ fn words(text: &str) -> Vec<String> {
     spaced.split_whitespace().map(str::to_string).collect()
 }
 
-/// The names that a text may cite. None of them is a field that is taken (`x .field`) or set
-/// (`{ field = x; .. }`), or a variable from where it is given a type on (`(x y : T)`).
+/// The names that a text may cite. None of them is a field that is taken (`(f x).field`) or set
+/// (`{ field = x; .. }`), or a variable from where it is given a type on (`(x y : T)`), with what is
+/// taken of it (`x.field`).
 pub fn names(text: &str) -> Vec<String> {
     let words = words(text);
     let at = |i: usize| words.get(i).map_or("", String::as_str);
@@ -159,7 +160,8 @@ pub fn names(text: &str) -> Vec<String> {
             bound.extend((i..typed.unwrap_or(i)).map(at));
         }
         let set = ["{", ";"].contains(&before) && at(i + 1) == "=";
-        if !at(i).starts_with('.') && !set && !bound.contains(at(i)) {
+        let head = at(i).split('.').next().unwrap_or_default();
+        if !at(i).starts_with('.') && !set && !bound.contains(head) {
             names.push(at(i).trim_end_matches('.').to_string());
         }
     }
