@@ -62,7 +62,7 @@ one_side here = refl
 /// A public call and a private function, with contracts that cite the same.
 const CALL: &str = "
 ghost use Rattle.wire.specs.Ends.{next_end};
-ghost use Rattle.wire.specs.inside.Steps.{next_step};
+ghost use Rattle.wire.specs.inside.Steps.{«next_step»};
 pub extern \"C\" fn step(n: usize) -> usize
     ensures answer { result ≡
         next_step n }

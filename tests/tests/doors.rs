@@ -61,14 +61,13 @@ fn faults(code: &Modules, module: &str) -> BTreeMap<String, Option<&'static str>
     let mut found = BTreeMap::new();
     let text = &code[module];
     for line in text.lines() {
+        for (home, name) in tools::handed_on(line) {
+            found.insert(format!("{home}::{name}"), fault(&code[&home], &name));
+        }
         let line = line.replace("extern \"C\" ", "");
         if let Some(function) = line.strip_prefix("pub fn ") {
             let (name, _) = function.split_once('(').expect("parameters");
             found.insert(format!("{module}::{name}"), fault(text, name));
-        } else if let Some(path) = line.strip_prefix("pub use ") {
-            let path = path.trim_end_matches(';').trim_start_matches("crate::");
-            let (home, name) = path.rsplit_once("::").expect("a module and a name");
-            found.insert(path.to_string(), fault(&code[home], name));
         } else if let Some(inner) = line.strip_prefix("pub mod ") {
             let inner = inner.trim_end_matches(';');
             if inner != "inside" {
@@ -106,10 +105,14 @@ fn faults_that_are_planted_are_found() {
             .into_values()
             .collect::<Vec<_>>()
     };
-    let asks = "pub fn f(x: u8) -> u8\n    requires { ⌜ x < 9 ⌝ }\n{\n    x\n}\n";
+    let asks = "pub fn f(x: u8) -> u8\n    requires { x < 9 }\n{\n    x\n}\n";
     let empty = "pub fn f(x: u8) -> u8 {\n    x\n}\n";
-    let good = "pub fn f(x: u8) -> u8\n    ensures { λ r. ⌜ r ≡ x ⌝ }\n{\n    x\n}\n";
-    for root in ["pub mod leaf;\n", "mod leaf;\npub use leaf::f;\n"] {
+    let good = "pub fn f(x: u8) -> u8\n    ensures { result ≡ x }\n{\n    x\n}\n";
+    for root in [
+        "pub mod leaf;\n",
+        "mod leaf;\npub use leaf::f;\n",
+        "mod leaf;\npub use leaf::{f};\n",
+    ] {
         assert_eq!(code(root, asks), [Some("asks for something")]);
         assert_eq!(code(root, empty), [Some("has no contract")]);
         assert_eq!(code(root, good), [None]);

@@ -175,6 +175,12 @@ fn commands_for_the_library_work() {
 }
 
 #[test]
+fn readme_names_the_kit() {
+    let kit = text(Path::new(".ci/kit"));
+    assert!(text(Path::new("README.md")).contains(&format!("`{}`", kit.trim())));
+}
+
+#[test]
 fn picture_of_the_readme_has_the_places_of_the_panel() {
     let page = text(Path::new("README.md"));
     let rows: Vec<&str> = ["    tiles    ", "    boards   ", "    cable    "]

@@ -50,7 +50,7 @@ fn place() -> PathBuf {
     let path = stored("target/bin/place");
     assert!(
         path.exists(),
-        "place is missing; make it with: rt check place"
+        "place is missing; make it with: make"
     );
     path
 }

@@ -104,7 +104,7 @@ pub fn items(text: &str) -> Vec<Item> {
 pub type Import = (String, Option<String>);
 
 /// The crates of the kit.
-const KIT: [&str; 3] = ["core.", "io.", "std."];
+const KIT: [&str; 2] = ["io.", "std."];
 
 /// What a file uses of the library: `use PATH.{a, b as c}` or `use PATH as d`, in code `ghost use`.
 /// What is of the kit or declared by the code is left out.
@@ -144,8 +144,9 @@ fn words(text: &str) -> Vec<String> {
     spaced.split_whitespace().map(str::to_string).collect()
 }
 
-/// The names that a text may cite. None of them is a field that is set
-/// (`{ field = x; .. }`), or a variable from where it is given a type on (`(x y : T)`).
+/// The names that a text may cite. None of them is a field that is taken (`(f x).field`) or set
+/// (`{ field = x; .. }`), or a variable from where it is given a type on (`(x y : T)`), with what is
+/// taken of it (`x.field`).
 pub fn names(text: &str) -> Vec<String> {
     let words = words(text);
     let at = |i: usize| words.get(i).map_or("", String::as_str);
@@ -159,7 +160,8 @@ pub fn names(text: &str) -> Vec<String> {
             bound.extend((i..typed.unwrap_or(i)).map(at));
         }
         let set = ["{", ";"].contains(&before) && at(i + 1) == "=";
-        if !at(i).starts_with('.') && !set && !bound.contains(at(i)) {
+        let head = at(i).split('.').next().unwrap_or_default();
+        if !at(i).starts_with('.') && !set && !bound.contains(head) {
             names.push(at(i).trim_end_matches('.').to_string());
         }
     }

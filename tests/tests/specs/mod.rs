@@ -43,7 +43,7 @@ impl Library {
         }
     }
 
-    /// The library of a repository. Of the proofs only laws are looked at.
+    /// The library of a repository. Of the proofs only laws are looked at, and nothing of what is built.
     pub fn read(root: &Path) -> Library {
         let mut paths: Vec<String> = sources::PAGES.map(str::to_string).into();
         paths.push("crates".to_string());
@@ -61,7 +61,9 @@ impl Library {
             if root.join(&path).is_dir() {
                 for entry in fs::read_dir(root.join(&path)).expect("a folder") {
                     let name = entry.expect("an entry of a folder").file_name();
-                    paths.push(format!("{path}/{}", name.to_string_lossy()));
+                    if name != "out" {
+                        paths.push(format!("{path}/{}", name.to_string_lossy()));
+                    }
                 }
             } else if kind(&path) && !proof(&path) {
                 let text = fs::read_to_string(root.join(&path)).expect("a text");

@@ -28,11 +28,9 @@ pub fn contracts(library: &Library) -> Vec<Source> {
             if let Some(function) = line.strip_prefix("pub fn ") {
                 let (name, _) = function.split_once('(').expect("parameters");
                 calls.push((file.clone(), name.to_string()));
-            } else if let Some(path) = line.strip_prefix("pub use ") {
-                let (module, names) = path.trim_end_matches(';').split_once("::").expect("a name");
-                for name in names.trim_matches(['{', '}']).split(", ") {
-                    calls.push((format!("{folder}{module}.rt"), name.to_string()));
-                }
+            }
+            for (module, name) in tools::handed_on(&line) {
+                calls.push((format!("{folder}{module}.rt"), name));
             }
         }
     }
@@ -46,20 +44,27 @@ pub fn contracts(library: &Library) -> Vec<Source> {
 }
 
 /// The laws files that a page calls so: by a path, by `laws/NAME.antt`, or by NAME. If definitions
-/// have a file of the same NAME, the page must have said `laws` before.
+/// have a file of the same NAME, the page must have said `laws` before. Those under `specs` go before
+/// those under `proofs`.
 fn laws(library: &Library, called: &str, before: &str) -> Vec<String> {
     let other = format!("/specs/{called}.antt");
     let is_other = |file: &String| is_trusted(file) && file.ends_with(&other);
     let clear = before.contains("laws") || !library.items.keys().any(is_other);
-    let end = match called.ends_with(".antt") {
-        true => format!("/{called}"),
-        false => format!("/laws/{called}.antt"),
+    let ends = match called.ends_with(".antt") {
+        true => vec![format!("/{called}")],
+        false => ["specs", "proofs"]
+            .map(|of| format!("/{of}/laws/{called}.antt"))
+            .into(),
     };
     let meant = called.contains("laws/") || clear && called != CASE;
-    let files = library.items.keys();
-    let files = files.filter(|file| meant && file.contains("/laws/"));
-    let files = files.filter(|file| format!("/{file}").ends_with(&end));
-    files.cloned().collect()
+    let found = |end: String| -> Vec<String> {
+        let files = library.items.keys();
+        let files = files.filter(|file| meant && file.contains("/laws/"));
+        let files = files.filter(|file| format!("/{file}").ends_with(&end));
+        files.cloned().collect()
+    };
+    let mut found = ends.into_iter().map(found);
+    found.find(|files| !files.is_empty()).unwrap_or_default()
 }
 
 /// The theorems in a file.

@@ -127,6 +127,19 @@ pub fn python() -> Command {
     command
 }
 
+/// The module and the name of each function that a line `pub use MODULE::..` hands on.
+#[allow(dead_code)]
+pub fn handed_on(line: &str) -> Vec<(String, String)> {
+    let Some(path) = line.strip_prefix("pub use ") else {
+        return Vec::new();
+    };
+    let path = path.trim_end_matches(';').trim_start_matches("crate::");
+    let (module, names) = path.rsplit_once("::").expect("a module and a name");
+    let names = names.trim_start_matches('{').trim_end_matches('}');
+    let pair = |name: &str| (module.to_string(), name.to_string());
+    names.split(", ").map(pair).collect()
+}
+
 /// The contract of a function: what stands between its signature and its body.
 #[allow(dead_code)]
 pub fn contract(text: &str, name: &str) -> Option<String> {
