@@ -55,9 +55,6 @@ impl Library {
                 .any(|end| path.ends_with(end))
         };
         while let Some(path) = paths.pop() {
-            if path.ends_with("/out") {
-                continue; // what the kit made
-            }
             if root.join(&path).is_dir() {
                 for entry in fs::read_dir(root.join(&path)).expect("a folder") {
                     let name = entry.expect("an entry of a folder").file_name();
