@@ -125,5 +125,5 @@ fn names_that_are_not_there_are_told() {
 #[test]
 #[should_panic(expected = "there are no laws Ends")]
 fn laws_that_are_not_there_are_told() {
-    found("README.md", "| the ends | laws `Ends`: `two-ends` |");
+    found("README.md", "| the ends | laws `Ends`: `two_ends` |");
 }

@@ -114,8 +114,7 @@ fn last_line_is_that_of_rt_ci() {
     assert_eq!(lines, [VERDICT, ".ci/run: 0 tests were skipped"]);
     assert!(said.contains("rt: ok, all proved"));
     assert_eq!(said.matches("test result: ok.").count(), 2);
-    let expected =
-        "rt version\nrt ci\nrt lib\nrt run\ncargo test --release --offline --locked\n";
+    let expected = "rt version\nrt ci\nrt lib\nrt run\ncargo test --release --offline --locked\n";
     assert_eq!(repository.asked(), expected);
     repository.check_nothing_left();
 }
@@ -141,7 +140,11 @@ fn faults_of_rt_ci_are_told() {
 #[test]
 fn a_library_or_a_program_that_is_not_built_is_told() {
     for verb in ["lib", "run"] {
-        check_fault(verb, "rt", &format!("case $1 in {verb}) exit 1 ;; esac{KIT}"));
+        check_fault(
+            verb,
+            "rt",
+            &format!("case $1 in {verb}) exit 1 ;; esac{KIT}"),
+        );
         let nothing = format!("case $1 in {verb}) exit 0 ;; esac{KIT}");
         check_fault(&format!("{verb} made"), "rt", &nothing);
     }

@@ -286,20 +286,33 @@ fn help_has_every_target() {
 #[test]
 fn times_are_those_of_a_copy() {
     let repository = Repository::new("times");
-    repository.write("crates.txt", b"# NAME: what it uses\nleb128:\nsheet: leb128\n");
+    repository.write(
+        "crates.txt",
+        b"# NAME: what it uses\nleb128:\nsheet: leb128\n",
+    );
     repository.write("crates/leb128/src/lib.rt", b"");
-    repository.write("kit", b"[ \"$1\" = verdict ] && [ -e ../../crates.txt ] && [ ! -e ../../Makefile ]\n");
+    repository.write(
+        "kit",
+        b"[ \"$1\" = verdict ] && [ -e ../../crates.txt ] && [ ! -e ../../Makefile ]\n",
+    );
     // a clock on which the crates take 6 and 25 seconds
-    let clock = "#!/bin/sh\nread -r now rest < \"$CLOCK\"\necho \"$rest\" > \"$CLOCK\"\necho \"$now\"\n";
+    let clock =
+        "#!/bin/sh\nread -r now rest < \"$CLOCK\"\necho \"$rest\" > \"$CLOCK\"\necho \"$now\"\n";
     repository.program("tools/date", clock);
     repository.write("clock", b"10 16 20 45\n");
     for edit in ["one", "two"] {
         repository.write(&format!("crates/sheet/must-fail/{edit}.edit"), b"");
     }
     let times = || {
-        let path = format!("{}:{}", repository.folder.join("tools").display(), env!("PATH"));
+        let path = format!(
+            "{}:{}",
+            repository.folder.join("tools").display(),
+            env!("PATH")
+        );
         let mut command = make();
-        command.env("PATH", path).env("CLOCK", repository.folder.join("clock"));
+        command
+            .env("PATH", path)
+            .env("CLOCK", repository.folder.join("clock"));
         command.arg(repository.kit("kit")).arg("times");
         run_in(&repository.folder, &mut command)
     };

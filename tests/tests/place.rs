@@ -48,10 +48,7 @@ fn stored(path: &str) -> PathBuf {
 /// The program.
 fn place() -> PathBuf {
     let path = stored("target/bin/place");
-    assert!(
-        path.exists(),
-        "place is missing; make it with: make"
-    );
+    assert!(path.exists(), "place is missing; make it with: make");
     path
 }
 

@@ -37,7 +37,7 @@ pub struct Counts {
 }
 
 // A sheet whose arcs were loaded, or the refusal.
-#[derive(Drop)]
+#[derive(Clone, Copy)]
 pub enum Loaded {
     Sheet(Counts),
     Refused(Refusal),

@@ -22,7 +22,7 @@ use leb128::Refusal;
 use leb128::refusals::SLICE_SHORT;
 
 // Yes, no, or the refusal.
-#[derive(Drop)]
+#[derive(Clone, Copy)]
 pub enum Verdict {
     Yes,
     No,

@@ -33,14 +33,14 @@ use crate::start::{count_deficits, saturate};
 use network::nodes::NODE_STRIDE;
 
 // What solve answers: a solution, or that the input is not taken.
-#[derive(Drop)]
+#[derive(Clone, Copy)]
 pub enum Answer {
     Solved,
     Malformed,
 }
 
 // A node, or none.
-#[derive(Drop)]
+#[derive(Clone, Copy)]
 enum Found {
     At(usize),
     Nothing,

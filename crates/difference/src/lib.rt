@@ -14,7 +14,7 @@ use crate::sweep::run;
 use network::well_formed;
 
 // What a step found: every constraint held; some value rose; no solution exists.
-#[derive(Drop)]
+#[derive(Clone, Copy)]
 enum Found {
     Same,
     Changed,
@@ -22,7 +22,7 @@ enum Found {
 }
 
 // What the whole call found: a solution, that there is none, or input that is not taken.
-#[derive(Drop)]
+#[derive(Clone, Copy)]
 pub enum Answer {
     Solved,
     NoSolution,

@@ -30,7 +30,7 @@ use network::layout::STRIDE;
 use sheet::limits::MAX_LAYERS;
 
 // The total, or the refusal.
-#[derive(Drop)]
+#[derive(Clone, Copy)]
 pub enum Answer {
     Drawn(u32),
     Refused(Refusal),
@@ -66,14 +66,14 @@ fn draw_any(bytes: &[u8], places: &mut [u16], list: &mut [i32]) -> Answer
 }
 
 // A width, and the least total at it.
-#[derive(Drop)]
+#[derive(Clone, Copy)]
 pub struct Narrowest {
     pub width: u16,
     pub total: u32,
 }
 
 // The minimum width with its total, or the refusal.
-#[derive(Drop)]
+#[derive(Clone, Copy)]
 pub enum Minimum {
     Found(Narrowest),
     Refused(Refusal),

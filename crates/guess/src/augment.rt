@@ -4,7 +4,7 @@ use crate::search::seek;
 use crate::slots::{NONE, end_of, lesser, limit_of, narrow, of_node, read, shift, write};
 
 // What a search comes to: something is moved and the search can go on, something is moved and it is over, nothing is moved.
-#[derive(Drop)]
+#[derive(Clone, Copy)]
 pub enum Augmented {
     Open,
     Done,

@@ -19,7 +19,7 @@ use network::clear;
 use network::nodes::NODE_STRIDE;
 
 // What solve answers: a solution, that there is none, or input that is not taken.
-#[derive(Drop)]
+#[derive(Clone, Copy)]
 pub enum Answer {
     Solved,
     NoSolution,

@@ -2,7 +2,7 @@
 use leb128::Answer;
 
 // The format: a sheet, or a coordinate file.
-#[derive(Drop)]
+#[derive(Clone, Copy)]
 pub enum Format {
     Sheet,
     Coordinates,

@@ -22,11 +22,12 @@ fn words(said: &str) -> &str {
     }
 }
 
-// Says on the standard error what failed, and why.
-fn complain(rt: &HostRuntime, what: &str, error: io::Error) -> io::Result<()> {
-    let said = format!(in rt.alloc(); "{error}")?;
-    let why = words(said.as_str());
-    eprintln!(rt; "place: {what}: {why}")
+// Says on the standard error what failed, and why; with the number where there is no memory for the words.
+fn complain(rt: &HostRuntime, what: &str, error: io::Error) {
+    let _ = match format!(in rt.alloc(); "{error}") {
+        Ok(said) => eprintln!(rt; "place: {what}: {}", words(said.as_str())),
+        Err(_) => eprintln!(rt; "place: {what}: {error}"),
+    };
 }
 
 // Draws a sheet, and prints the text of the answer by one write.
@@ -34,7 +35,7 @@ fn print(rt: &HostRuntime, bytes: &[u8]) {
     let mut text = [0u8; MAX_TEXT];
     let count = answer(bytes, &mut text);
     if let Err(error) = rt.stdout().write_all(&text[0..count]) {
-        let _ = complain(rt, "standard output", error);
+        complain(rt, "standard output", error);
     }
 }
 
@@ -44,7 +45,7 @@ fn run(rt: &HostRuntime, input: &mut [u8]) {
     while done < input.len() {
         match rt.stdin().read(&mut input[done..]) {
             Err(error) => {
-                let _ = complain(rt, "standard input", error);
+                complain(rt, "standard input", error);
                 return;
             }
             Ok(0) => {

@@ -59,7 +59,7 @@ pub fn write_coordinates(numbers: &[u16], bytes: &mut [u8]) -> Answer
 }
 
 // Where a node stands: its layer and its position there, from 1; or there is no such node.
-#[derive(Drop)]
+#[derive(Clone, Copy)]
 pub enum Location {
     Node(usize, usize),
     Nowhere,
@@ -103,7 +103,7 @@ struct Awaited {
 }
 
 // What stands at a cursor: a value with the next cursor, or the refusal.
-#[derive(Drop)]
+#[derive(Clone, Copy)]
 enum Step {
     Value(u32, Cursor),
     Refused(Refusal),

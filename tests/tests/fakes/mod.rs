@@ -33,8 +33,8 @@ pub const NEEDED: [(&str, &str); 18] = [
 
 /// The system's own commands that the scripts use, and those of these tests.
 const SYSTEM: [&str; 22] = [
-    "awk", "bash", "cat", "cp", "dirname", "getconf", "grep", "id", "mkdir", "mktemp", "mv", "nproc", "paste",
-    "rm", "sed", "sh", "sort", "tail", "tee", "tr", "true", "uname",
+    "awk", "bash", "cat", "cp", "dirname", "getconf", "grep", "id", "mkdir", "mktemp", "mv",
+    "nproc", "paste", "rm", "sed", "sh", "sort", "tail", "tee", "tr", "true", "uname",
 ];
 
 /// The scripts, and what they read.

@@ -34,7 +34,7 @@ pub returns-then-totals-count : goal.returns-then-totals-count
 returns-then-totals-count c =
     let both = refused_held c.args.first.now c.args.arcs.now c.args.counts c.args.widths.now c.args.totals.now c.refused-then-totals-count.ensures
     (answer_short c.args.widths.now (length c.args.totals.now) (omega (arith, c.if-count-gt-MAX_WIDTHS.false))
-    (omega (arith, c.first_outside-at.ensures, c.if-at-count.false)) c.if-totals-count.true) in
+    (omega (arith, c.first_outside-at.ensures)) c.if-totals-count.true) in
     record {
       answer = both.0;
       slice = both.1;
@@ -45,7 +45,7 @@ put_entries-requires c =
     record {
       holds = c.requires;
       within = (
-        none_outside c.args.widths.now (omega (arith, c.first_outside-at.ensures, c.if-at-count.false)),
+        none_outside c.args.widths.now (omega (arith, c.first_outside-at.ensures)),
         omega (arith, c.if-totals-count.false),
       );
     }
@@ -54,7 +54,7 @@ pub returns : goal.returns
 returns c =
     let both = wrote_held c.args.first.now c.args.arcs.now c.args.counts c.args.widths.now c.args.totals.now _
     (answer_wrote c.args.widths.now (length c.args.totals.now) (omega (arith, c.if-count-gt-MAX_WIDTHS.false))
-    (omega (arith, c.first_outside-at.ensures, c.if-at-count.false))
+    (omega (arith, c.first_outside-at.ensures))
     (omega (arith, c.if-totals-count.false)))
     c.put_entries.ensures in
     record {
