@@ -6,6 +6,7 @@ use std::env;
 use std::fs;
 use std::path::{Path, PathBuf};
 use std::process::Command;
+use std::sync::{Mutex, PoisonError};
 
 use compare::{grouped, page};
 use tools::{folder, functions, numbers, root, run_in, shared_library, NO_KIT};
@@ -125,6 +126,9 @@ fn commands(page: &str) -> Vec<String> {
 /// Checks that the commands of a page succeed one after the other, for a new user who begins with the
 /// first one, and that each that draws the panel prints its drawing.
 fn check_commands(page: &str, first: &str, least: usize) {
+    // make writes the library anew, so one page goes after the other
+    static ALONE: Mutex<()> = Mutex::new(());
+    let _alone = ALONE.lock().unwrap_or_else(PoisonError::into_inner);
     let commands = commands(page);
     assert!(commands.len() >= least, "{commands:?}");
     assert_eq!(commands[0], first);
