@@ -6,7 +6,7 @@
 #   make install      installs what is built, to prefix (/usr/local) below DESTDIR; it builds nothing
 #   make uninstall    takes away what was installed
 #   make times        prints how long the check of each crate takes, from nothing, and its must-fail edits: minutes
-#   make check        tests the tools, then the gate, .ci/run: proves everything from nothing and runs all tests
+#   make check        tests the tools, then the gate, .ci/run: proves everything and runs all tests
 #   make clean        takes away everything that was built, proofs too
 #   make help         prints these lines
 
@@ -43,16 +43,17 @@ all: $(PROGRAM) lib
 
 lib: $(SHARED)
 
-# The kit writes the archive anew each time, in the crate's folder.
+# The kit writes the archive anew each time, in the crate's folder. Whoever links meanwhile finds the old one or the new one, whole.
 $(STATIC): FORCE
 	cd crates/strip && $(RT) lib
-	mkdir -p $(@D) && cp crates/strip/out/libstrip.a $@
+	mkdir -p $(@D) && cp crates/strip/out/libstrip.a $@.new && mv $@.new $@
 
 # The archive is position independent and needs nothing but memcpy and memset.
 $(SHARED): $(STATIC) crates/strip/exports.map Makefile
 	mkdir -p $(@D)
-	$(CC) $(CFLAGS) -shared -o $@ -Wl,-soname,$(@F) -Wl,--version-script=crates/strip/exports.map \
+	$(CC) $(CFLAGS) -shared -o $@.new -Wl,-soname,$(@F) -Wl,--version-script=crates/strip/exports.map \
 	    -Wl,-z,defs -Wl,-z,now -Wl,--whole-archive $(STATIC) -Wl,--no-whole-archive $(LDFLAGS)
+	mv $@.new $@
 	ln -sf $(@F) target/lib/libstrip.so
 
 # The kit builds a program and runs it, here on no bytes. A program that is the same stays; its time says when that was found.
@@ -110,7 +111,7 @@ uninstall:
 	@for folder in "$(DESTDIR)$(CMAKEDIR)" "$(DESTDIR)$(DOCDIR)"; do \
 	    [ ! -d "$$folder" ] || rmdir --ignore-fail-on-non-empty "$$folder"; done
 
-# A copy of the crates is proved, so that what is built stays. A must-fail edit of a crate takes as long as its check.
+# A copy of the crates is proved, so that what is built stays. A must-fail edit of a crate takes at most as long as its check.
 times:
 	@copy=$$(mktemp -d) && mkdir "$$copy/.git" && cp -R crates crates.txt "$$copy" && rm -rf "$$copy"/crates/*/out; \
 	    for crate in $$(sed -n 's/^\([a-z0-9_]*\)[^:#]*:.*/\1/p' crates.txt); do \
@@ -136,7 +137,7 @@ define next
     'Type next:' \
     '    $(PROGRAM) < examples/wall.sheet    draws another sheet: README.md has what the answers mean' \
     '    make install prefix=$$HOME/strip           installs library and program: docs/LIBRARY.md has how to call it' \
-    '    make check                                proves everything from nothing and runs all tests: half an hour'
+    '    make check                                proves everything and runs all tests: half an hour'
 endef
 
 demo: demo-needs all

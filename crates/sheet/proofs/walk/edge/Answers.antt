@@ -1,4 +1,4 @@
--- `sheet::walk::edge` meets its contract: four steps, one behind the other (`EdgeLaws`).
+-- `sheet::walk::edge` meets its contract: four steps, one behind the other (`Edges`).
 use native.Mathlib.Omega.{arith}
 use Rattle.sheet.proofs.laws.WalkSteps.{limited_value}
 use Rattle.sheet.proofs.laws.Edges.{layer_refused, upper_refused, lower_refused, edge_read}

@@ -1,4 +1,4 @@
--- `sheet::walk::walk` meets its contract: the parts of the sheet, one behind the other (`SheetLaws`).
+-- `sheet::walk::walk` meets its contract: the parts of the sheet, one behind the other (`Sheet`).
 use native.Mathlib.Omega.{arith}
 use Rattle.sheet.proofs.laws.WalkSteps.{limited_value}
 use Rattle.sheet.proofs.laws.Sheet.{layers_value, width_refused, count_refused, layers_refused, total_refused, sheet_walked}
