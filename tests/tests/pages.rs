@@ -19,7 +19,8 @@ fn pages() -> Vec<PathBuf> {
     for folder in ["docs", "docs/landings"] {
         for entry in fs::read_dir(root().join(folder)).expect("the pages") {
             let name = entry.expect("a page").file_name();
-            if name != "landings" && name != "TEMPLATE.md" {
+            let page = Path::new(&name).extension().is_some_and(|end| end == "md");
+            if page && name != "TEMPLATE.md" {
                 pages.push(Path::new(folder).join(name));
             }
         }
