@@ -88,10 +88,6 @@ def respell_rt(text, names, kit):
     return "".join(respell_line(line, names, kit) for line in text.splitlines(True))
 
 
-def respell_comments(text, names):
-    return re.sub(r"`([^`\n]+)`", lambda m: "`" + respell_antt(m.group(1), names, set()) + "`", text)
-
-
 def main():
     own = crates()
     names, plain = own_names()
