@@ -43,10 +43,14 @@ all: $(PROGRAM) lib
 
 lib: $(SHARED)
 
-# The kit writes the archive anew each time, in the crate's folder. Whoever links meanwhile finds the old one or the new one, whole.
+# Takes what the kit has built in a crate's folder. What is the same stays, and its time says when that was found; whoever uses it
+# meanwhile finds the old file or the new one, whole.
+take = mkdir -p $(@D) && { cmp -s $(1) $@ || { cp $(1) $@.new && mv $@.new $@; }; } && touch -c $@
+
+# The kit writes the archive anew each time.
 $(STATIC): FORCE
 	cd crates/strip && $(RT) lib
-	mkdir -p $(@D) && cp crates/strip/out/libstrip.a $@.new && mv $@.new $@
+	$(call take,crates/strip/out/$(@F))
 
 # The archive is position independent and needs nothing but memcpy and memset.
 $(SHARED): $(STATIC) crates/strip/exports.map Makefile
@@ -56,10 +60,10 @@ $(SHARED): $(STATIC) crates/strip/exports.map Makefile
 	mv $@.new $@
 	ln -sf $(@F) target/lib/libstrip.so
 
-# The kit builds a program and runs it, here on no bytes. A program that is the same stays; its time says when that was found.
+# The kit builds a program and runs it, here on no bytes.
 $(PROGRAM): FORCE
 	cd crates/$(@F) && $(RT) run </dev/null >/dev/null
-	mkdir -p $(@D) && { cmp -s crates/$(@F)/out/$(@F) $@ || cp crates/$(@F)/out/$(@F) $@; } && touch -c $@
+	$(call take,crates/$(@F)/out/$(@F))
 
 # The files of a crate and of those that it uses.
 crates = $(1) $(shell sed -n 's/^$(1)\( staticlib\)\{0,1\}: *//p' crates.txt)
@@ -111,9 +115,10 @@ uninstall:
 	@for folder in "$(DESTDIR)$(CMAKEDIR)" "$(DESTDIR)$(DOCDIR)"; do \
 	    [ ! -d "$$folder" ] || rmdir --ignore-fail-on-non-empty "$$folder"; done
 
-# A copy of the crates is proved, so that what is built stays. A must-fail edit of a crate takes at most as long as its check.
+# A copy of the crates is proved, so that what is built stays. A must-fail edit of a crate takes at most as long as its check. On a machine
+# that has built nothing yet, the time of a crate has in it that of the libraries that it is the first to use.
 times:
-	@copy=$$(mktemp -d) && mkdir "$$copy/.git" && cp -R crates crates.txt "$$copy" && rm -rf "$$copy"/crates/*/out; \
+	@copy=$$(mktemp -d) && tar -cf - --exclude=out crates crates.txt | tar -xf - -C "$$copy"; \
 	    for crate in $$(sed -n 's/^\([a-z0-9_]*\)[^:#]*:.*/\1/p' crates.txt); do \
 	        begun=$$(date +%s); (cd "$$copy/crates/$$crate" && $(RT) verdict) > "$$copy/log" 2>&1 || { touch "$$copy/failed"; break; }; \
 	        echo "$$crate $$(($$(date +%s) - begun)) $$(find "crates/$$crate/must-fail" -name '*.edit' 2>/dev/null | wc -l)"; done | \

@@ -92,6 +92,9 @@ fn repository(name: &str) -> Repository {
     repository.command("cargo", &format!("{CARGO_VERSION}{CARGO}"));
     repository.program("tests/tests/one.rs", "");
     repository.program("tests/tests/two.rs", "");
+    // the library and the program are built by the rules of the Makefile
+    repository.system_command("make");
+    fs::copy(tools::root().join("Makefile"), repository.path("Makefile")).expect("the Makefile");
     for folder in ["crates/strip", "crates/place"] {
         fs::create_dir_all(repository.path(folder)).expect("folders can be made");
     }

@@ -3,6 +3,7 @@
 mod tools;
 
 use std::collections::BTreeMap;
+use std::env;
 use std::fs::{self, File};
 use std::path::{Path, PathBuf};
 use std::process::{Command, Output};
@@ -304,11 +305,8 @@ fn times_are_those_of_a_copy() {
         repository.write(&format!("crates/sheet/must-fail/{edit}.edit"), b"");
     }
     let times = || {
-        let path = format!(
-            "{}:{}",
-            repository.folder.join("tools").display(),
-            env!("PATH")
-        );
+        let path = env::var("PATH").expect("a PATH");
+        let path = format!("{}:{path}", repository.folder.join("tools").display());
         let mut command = make();
         command
             .env("PATH", path)

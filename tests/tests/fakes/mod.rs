@@ -32,9 +32,9 @@ pub const NEEDED: [(&str, &str); 18] = [
 ];
 
 /// The system's own commands that the scripts use, and those of these tests.
-const SYSTEM: [&str; 22] = [
-    "awk", "bash", "cat", "cp", "dirname", "getconf", "grep", "id", "mkdir", "mktemp", "mv",
-    "nproc", "paste", "rm", "sed", "sh", "sort", "tail", "tee", "tr", "true", "uname",
+const SYSTEM: [&str; 24] = [
+    "awk", "bash", "cat", "cmp", "cp", "dirname", "getconf", "grep", "id", "mkdir", "mktemp", "mv",
+    "nproc", "paste", "rm", "sed", "sh", "sort", "tail", "tee", "touch", "tr", "true", "uname",
 ];
 
 /// The scripts, and what they read.
@@ -101,6 +101,13 @@ impl Repository {
     /// Makes a command that is a link to a file.
     fn link(&self, name: &str, file: &Path) {
         symlink(file, self.path("tools").join(name)).expect(name);
+    }
+
+    /// Makes a command that only talked the system's own.
+    #[allow(dead_code)]
+    pub fn system_command(&self, name: &str) {
+        self.hide(name);
+        self.link(name, &of_system(name));
     }
 
     /// Takes a command off the PATH.
