@@ -1,22 +1,22 @@
 -- What loading a sheet answers, and what it leaves in the two lent slices.
-use Rattle.std.specs.Prelude.{ℕ, ◌+◌, ◌*◌, Bool, cond, ◌||◌, List, [], ◌∷◌, ◌++◌, map, ltb, length, drop}
+use Rattle.std.specs.Prelude.{ℕ, ◌+◌, ◌*◌, Bool, cond, ◌||◌, List, [], ◌∷◌, ◌++◌, map, ltb, length, drop, Ok, Err}
+use Rattle.std.specs.Prelude.{Result as Answer}
 use Rattle.leb128.specs.Refusals.{slice_short}
 use Rattle.leb128.specs.Source.{refusal}
 use Rattle.leb128.specs.Format.{Result}
 use Rattle.leb128.specs.Format.Result.{elements}
 use Rattle.leb128.specs.Reply.{Reply}
+use Rattle.leb128.specs.declared.Refusal.{Refusal}
 use Rattle.network.specs.Packed.{stride, packed}
 use Rattle.drawing.specs.Sheet.{Layer, sheet_of}
 use Rattle.drawing.specs.Arcs.{network}
 use Rattle.drawing.specs.Sheet as drawing
 use Rattle.arcs.specs.declared.Counts.{Counts}
-use Rattle.arcs.specs.declared.Loaded.{Loaded}
-use Rattle.arcs.specs.declared.Loaded.TheVariants.{Sheet, Refused}
 
--- what each case of the code's answer stands for: the counts of a sheet, or the refusal
-unfoldable pub loading : Loaded → Reply Counts
-loading (Sheet c) = Reply.value c
-loading (Refused r) = Reply.refused r
+-- what the code's answer stands for: the counts of a sheet, or the refusal
+unfoldable pub loading : Answer Counts Refusal → Reply Counts
+loading (Ok c) = Reply.value c
+loading (Err r) = Reply.refused r
 
 -- the first node of each layer of a sheet, and last the count of nodes
 abbrev pub layer_firsts : drawing.Sheet → List ℕ

@@ -3,4 +3,5 @@ pub mod Fitting
 pub mod Loaded
 pub mod PackedEdges
 pub mod HeldArcs
+pub mod HeldSheets
 pub mod Widened

@@ -8,7 +8,7 @@ ghost use Rattle.drawing.specs.laws.Good.{GoodEdge};
 ghost use Rattle.arcs.specs.inside.Traces.{strength_of, «as_read»};
 
 use crate::ReadEdge;
-use leb128::inside::{number, wide};
+use crate::numbers::number;
 use sheet::layout::{EDGE_KIND, EDGE_LAYER, EDGE_LOWER, EDGE_UPPER};
 use sheet::limits::MAX_WEIGHT;
 
@@ -29,8 +29,8 @@ pub fn edge_at(numbers: &[u16], at: usize, first: &[u16]) -> ReadEdge
     let lower = node_at(first, layer + 1, below);
     let amount = strength(kind);
     ReadEdge {
-        upper: upper,
-        lower: lower,
+        upper,
+        lower,
         strength: amount,
     }
 }
@@ -40,7 +40,7 @@ fn node_at(first: &[u16], layer: usize, position: usize) -> usize
     requires { (1 ≤ layer) × (layer ≤ length first.now) × (1 ≤ position) × (position < list_limit) }
     ensures { result ≡ node_at first.now layer position }
 {
-    wide(first[layer - 1]) + (position - 1)
+    usize::from(first[layer - 1]) + (position - 1)
 }
 
 // The strength of an edge by its kind; the weight of every edge is 1.

@@ -11,9 +11,8 @@ ghost use Rattle.drawing.specs.laws.Good.{GoodLayer, GoodLayers};
 ghost use Rattle.arcs.specs.inside.Pieces.{pair_at, layer_at, layers_arcs};
 
 use crate::Frame;
-use crate::numbers::layer_size;
+use crate::numbers::{layer_size, number};
 use crate::pack::{maximum, put_arc, upper_bound};
-use leb128::inside::number;
 use network::layout::KINK_ZERO;
 use sheet::layout::{FIRST_LAYER, MAXIMUM, MINIMUM, SEPARATION_STRIDE, SEPARATIONS};
 
@@ -44,15 +43,9 @@ fn put_pairs(
     ensures { Puts arcs.old n
         (packs (flat_map separation_arcs (pairs_of count first (drop start numbers.now)))) arcs.new result }
 {
-    let mut todo = count;
-    let mut at = start;
-    let mut v = first;
     let mut m = n;
-    while todo > 0 {
-        m = put_pair(numbers, at, v, arcs, m);
-        todo -= 1;
-        at += SEPARATION_STRIDE;
-        v += 1;
+    for k in 0..count {
+        m = put_pair(numbers, start + SEPARATION_STRIDE * k, first + k, arcs, m);
     }
     m
 }
@@ -93,14 +86,12 @@ pub fn put_layers(numbers: &[u16], layers: usize, frame: Frame, arcs: &mut [u32]
     ensures { Puts arcs.old n (packs (layers_arcs numbers.now layers frame.width frame.ground))
         arcs.new result }
 {
-    let mut todo = layers;
     let mut at = FIRST_LAYER;
     let mut v = 0;
     let mut m = n;
-    while todo > 0 {
+    for layer in 0..layers {
         let count = number(numbers, at);
         m = put_layer(numbers, at, v, frame, arcs, m);
-        todo -= 1;
         at += layer_size(count);
         v += count;
     }

@@ -1,8 +1,10 @@
 // The first nodes of a sheet's layers and the arcs of its network, loaded into lent slices, the arcs in the packed layout.
+// Between `usize` and the stored types a number goes by `as`: there is no `From`, and `try_from` would test what is proved.
 #![tactic(auto)]
 
 mod edges;
 mod fill;
+pub mod inside;
 mod layers;
 pub mod limits;
 mod numbers;
@@ -11,21 +13,20 @@ mod planning;
 mod traces;
 
 ghost use Rattle.std.specs.Prelude.{◌≡◌, length};
-ghost use Rattle.leb128.specs.Source.{refusal};
-ghost use Rattle.leb128.specs.Refusals.{slice_short};
 ghost use Rattle.leb128.specs.Format.Result.{elements};
 ghost use Rattle.sheet.specs.Limits.{max_nodes};
 ghost use Rattle.sheet.specs.Reading.{read_sheet};
 ghost use Rattle.drawing.specs.laws.Good.{Good};
+ghost use Rattle.arcs.specs.Held.{Holds};
 ghost use Rattle.arcs.specs.Loading.{loading, fitted, load_answer, load_firsts, load_arcs};
 
 use crate::fill::fill;
 use crate::limits::MAX_FIRSTS;
 use crate::planning::{plan, put_firsts};
+use leb128::Refusal;
 use leb128::refusals::SLICE_SHORT;
-use leb128::{Answer, Refusal};
 use network::layout::STRIDE;
-use sheet::limits::MAX_NUMBERS;
+use sheet::limits::{MAX_NUMBERS, MAX_WIDTH};
 
 // The counts of a sheet.
 #[derive(Clone, Copy)]
@@ -36,16 +37,9 @@ pub struct Counts {
     pub arcs: usize,
 }
 
-// A sheet whose arcs were loaded, or the refusal.
-#[derive(Clone, Copy)]
-pub enum Loaded {
-    Sheet(Counts),
-    Refused(Refusal),
-}
-
 // Loads a sheet: the first node of each layer and then the count of nodes into the front of one lent slice, the arcs into the front
-// of the other.
-pub fn load(bytes: &[u8], first: &mut [u16], arcs: &mut [u32]) -> Loaded
+// of the other. Answers the sheet's counts, or the refusal.
+pub fn load(bytes: &[u8], first: &mut [u16], arcs: &mut [u32]) -> Result<Counts, Refusal>
     ensures answer { loading result ≡ load_answer (fitted first.old arcs.old (read_sheet bytes.now)) }
     ensures first { first.new ≡ load_firsts
         (fitted first.old arcs.old (read_sheet bytes.now)) first.old }
@@ -53,10 +47,30 @@ pub fn load(bytes: &[u8], first: &mut [u16], arcs: &mut [u32]) -> Loaded
         (fitted first.old arcs.old (read_sheet bytes.now)) arcs.old }
 {
     let mut numbers = [0u16; MAX_NUMBERS];
-    let answer = sheet::read(bytes, &mut numbers);
-    match answer {
-        Answer::Refused(r) => Loaded::Refused(r),
-        Answer::Done(count) => load_numbers(&numbers[0..count], first, arcs),
+    let count = sheet::read(bytes, &mut numbers)?;
+    load_numbers(&numbers[..count], first, arcs)
+}
+
+// A good sheet: the first nodes of its layers and the packed arcs of its network, in the front of lent slices, and its counts.
+#[derive(Drop)]
+pub struct Loaded<'a> {
+    pub first: &'a [u16],
+    pub arcs: &'a mut [u32],
+    pub counts: Counts,
+    ghost holds: { ∥ Holds first.now arcs.now counts ∥₁ },
+}
+
+impl Loaded<'_> {
+    ghost use Rattle.std.specs.Prelude.{min};
+    ghost use Rattle.sheet.specs.Limits.{max_width};
+    ghost use Rattle.arcs.specs.HeldSheets.{AtWidth};
+
+    // Sets the sheet's width, to the greatest one that a sheet may have if this one is greater.
+    pub fn set_width(&mut self, width: u16)
+        ensures { AtWidth self.old (min width max_width) self.new }
+    {
+        let width = width.min(MAX_WIDTH as u16);
+        packed::set_width(self.arcs, self.counts.nodes, width);
     }
 }
 
@@ -95,18 +109,8 @@ struct Plan {
     edges: usize,
 }
 
-// The refusal of a slice that is too short.
-fn short() -> Loaded
-    ensures { result ≡ Loaded.Refused (refusal slice_short 0) }
-{
-    Loaded::Refused(Refusal {
-        number: SLICE_SHORT,
-        offset: 0,
-    })
-}
-
 // Loads a good sheet's numbers, where the slices have room for the first nodes and the arcs.
-fn load_numbers(numbers: &[u16], first: &mut [u16], arcs: &mut [u32]) -> Loaded
+fn load_numbers(numbers: &[u16], first: &mut [u16], arcs: &mut [u32]) -> Result<Counts, Refusal>
     requires { Good max_nodes numbers.now }
     ensures answer { loading result ≡ load_answer (fitted first.old arcs.old (elements numbers.now)) }
     ensures first { first.new ≡ load_firsts
@@ -121,17 +125,17 @@ fn load_numbers(numbers: &[u16], first: &mut [u16], arcs: &mut [u32]) -> Loaded
     let edges = known.edges;
     let count = edges + 2 * nodes;
     if first.len() < layers + 1 {
-        return short();
+        return Err(Refusal::new(SLICE_SHORT, 0));
     }
     if arcs.len() < STRIDE * count {
-        return short();
+        return Err(Refusal::new(SLICE_SHORT, 0));
     }
-    put_firsts(&found[0..layers + 1], first);
+    put_firsts(&found[..=layers], first);
     fill(numbers, &found, known, arcs);
-    Loaded::Sheet(Counts {
-        layers: layers,
-        nodes: nodes,
-        edges: edges,
+    Ok(Counts {
+        layers,
+        nodes,
+        edges,
         arcs: count,
     })
 }

@@ -31,7 +31,7 @@ pub fn strength_arc(upper: usize, lower: usize, strength: u8) -> PackedArc
     requires { (upper < max_nodes) × (lower < max_nodes) }
     ensures { arc_numbers result ≡ packs (strength_arc strength upper lower ∷ []) }
 {
-    let amount = strength as u32;
+    let amount = u32::from(strength);
     if amount <= MAX_WEIGHT {
         return PackedArc {
             tail: upper as u32,

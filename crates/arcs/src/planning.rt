@@ -7,8 +7,7 @@ ghost use Rattle.drawing.specs.laws.Good.{GoodLayers, Good};
 ghost use Rattle.arcs.specs.inside.Plans.{FirstNodes, Planned};
 
 use crate::Plan;
-use crate::numbers::layer_size;
-use leb128::inside::{number, wide};
+use crate::numbers::{layer_size, number};
 use sheet::layout::{FIRST_LAYER, LAYERS};
 
 // The first node of each layer, and last the count of nodes; answers the index behind the layers.
@@ -17,19 +16,15 @@ fn first_nodes(numbers: &[u16], layers: usize, first: &mut [u16]) -> usize
     requires first_layer_at_in_bounds { (first_layer_at ≤ length numbers.now) × (layers < length first.old) }
     ensures { FirstNodes numbers.now layers first.old first.new result }
 {
-    let mut todo = layers;
-    let mut i = 0;
     let mut at = FIRST_LAYER;
     let mut v = 0;
-    while todo > 0 {
+    for layer in 0..layers {
         let count = number(numbers, at);
-        first[i] = v as u16;
-        todo -= 1;
-        i += 1;
+        first[layer] = v as u16;
         at += layer_size(count);
         v += count;
     }
-    first[i] = v as u16;
+    first[layers] = v as u16;
     at
 }
 
@@ -41,13 +36,13 @@ pub fn plan(numbers: &[u16], first: &mut [u16]) -> Plan
 {
     let layers = number(numbers, LAYERS);
     let behind = first_nodes(numbers, layers, first);
-    let nodes = wide(first[layers]);
+    let nodes = usize::from(first[layers]);
     let edges = number(numbers, behind);
     Plan {
-        layers: layers,
-        behind: behind,
-        nodes: nodes,
-        edges: edges,
+        layers,
+        behind,
+        nodes,
+        edges,
     }
 }
 
@@ -56,9 +51,5 @@ pub fn put_firsts(found: &[u16], first: &mut [u16])
     requires { length found.now ≤ length first.old }
     ensures { first.new ≡ sets first.old 0 found.now }
 {
-    let mut i = 0;
-    while i < found.len() {
-        first[i] = found[i];
-        i += 1;
-    }
+    first[..found.len()].copy_from_slice(found);
 }

@@ -36,12 +36,8 @@ pub fn gather(numbers: &[u16], start: usize, count: usize, first: &[u16], table:
     ensures { Tabled first.now table.new
         (strongest (edges_of first.now count (drop start numbers.now))) }
 {
-    let mut left = count;
-    let mut at = start + EDGE_STRIDE * count;
-    while left > 0 {
-        left -= 1;
-        at -= EDGE_STRIDE;
-        let e = edge_at(numbers, at, first);
+    for i in (0..count).rev() {
+        let e = edge_at(numbers, start + EDGE_STRIDE * i, first);
         raise(table, e);
     }
 }
@@ -62,13 +58,9 @@ pub fn put_edges(
     ensures { Puts arcs.old 0
         (packs (map edge_arc (traces (edges_of first.now count (drop start numbers.now))))) arcs.new result }
 {
-    let mut todo = count;
-    let mut at = start;
     let mut n = 0;
-    while todo > 0 {
-        n = put_edge(numbers, at, first, table, arcs, n);
-        todo -= 1;
-        at += EDGE_STRIDE;
+    for i in 0..count {
+        n = put_edge(numbers, start + EDGE_STRIDE * i, first, table, arcs, n);
     }
     n
 }
@@ -100,7 +92,7 @@ fn raise(table: &mut [u8], e: ReadEdge)
         (max e.strength (get_or table.old (slot_of e.upper e.lower) 0)) }
 {
     let at = slot(e.upper, e.lower);
-    table[at] = larger(e.strength, table[at]);
+    table[at] = e.strength.max(table[at]);
 }
 
 // Takes the number of an edge's ends and leaves 0.
@@ -122,11 +114,4 @@ fn slot(upper: usize, lower: usize) -> usize
     ensures { result ≡ slot_of upper lower }
 {
     SLOTS_OF_NODE * upper + lower % SLOTS_OF_NODE
-}
-
-// The larger of two numbers.
-fn larger(a: u8, b: u8) -> u8
-    ensures { result ≡ max a b }
-{
-    if a < b { b } else { a }
 }

@@ -1,15 +1,15 @@
 -- The checker's answer: document 01, "The pull list", for places and a list that may be longer than is needed.
-use Rattle.std.specs.Prelude.{ℕ, Bool, true, false, cond, List, ltb, ℤ, length, take}
+use Rattle.std.specs.Prelude.{ℕ, Bool, true, false, cond, List, ltb, ℤ, length, take, Ok, Err}
+use Rattle.std.specs.Prelude.{Result as Answer}
 use Rattle.leb128.specs.Refusals.{slice_short}
 use Rattle.leb128.specs.Source.{refusal}
 use Rattle.leb128.specs.Format.{Result}
 use Rattle.leb128.specs.Format.Result.{elements}
 use Rattle.leb128.specs.Reply.{Reply}
+use Rattle.leb128.specs.declared.Refusal.{Refusal}
 use Rattle.drawing.specs.Sheet.{sheet_of}
 use Rattle.drawing.specs.Certificate.{certificate_size}
 use Rattle.drawing.specs.Judged.{judged}
-use Rattle.checker.specs.declared.Verdict.{Verdict}
-use Rattle.checker.specs.declared.Verdict.TheVariants.{Yes, No, Refused}
 
 -- yes
 abbrev pub accepted : Reply Bool
@@ -19,11 +19,10 @@ accepted = Reply.value true
 abbrev pub rejected : Reply Bool
 rejected = Reply.value false
 
--- what each case of the code's answer stands for: yes, no, or the refusal
-unfoldable pub judgement : Verdict → Reply Bool
-judgement Yes = accepted
-judgement No = rejected
-judgement (Refused r) = Reply.refused r
+-- what the code's answer stands for: yes, no, or the refusal
+unfoldable pub judgement : Answer Bool Refusal → Reply Bool
+judgement (Ok accepts) = Reply.value accepts
+judgement (Err r) = Reply.refused r
 
 -- refusal 7 where there are fewer places than nodes or fewer list elements than the certificate has, else the decision on
 -- so many of each: excess elements are not looked at

@@ -1,55 +1,38 @@
-// The decision on packed arcs with the first nodes of the layers, places and a list.
-ghost use Rattle.std.specs.Prelude.{◌≡◌, ◌≤◌, min, length, take};
-ghost use Rattle.leb128.specs.Words.{u32_most};
-ghost use Rattle.arcs.specs.Held.{Holds};
-ghost use Rattle.totals.specs.Lengths.{lengths_of};
+// The decision on a loaded sheet, places and a list.
+ghost use Rattle.std.specs.Prelude.{◌≡◌, ◌≤◌, length, take};
 ghost use Rattle.checker.specs.inside.Table.{table_decision};
 
-use crate::arc::wide;
 use crate::rules::{all_allowed, all_balanced, all_legal, bound};
-use crate::signed::{same, signed};
-use arcs::Counts;
-use network::layout::STRIDE;
-use sheet::limits::MAX_LAYERS;
+use arcs::Loaded;
+use totals::sheet_total;
 
 // Places that are a drawing, a list that meets the rules, and the bound equal to the total.
-fn judge_whole(arcs: &[u32], first: &[u16], places: &[u16], list: &[i32], counts: Counts) -> bool
-    requires holds { Holds first.now arcs.now counts }
-    requires arcs_in_bounds { (counts.arcs ≤ length list.now) × (length places.now ≡ counts.nodes) }
-    ensures { result ≡ table_decision arcs.now counts places.now list.now }
+fn judge_whole(sheet: &Loaded, places: &[u16], list: &[i32]) -> bool
+    requires { (sheet.now.counts.arcs ≤ length list.now) × (length places.now ≡ sheet.now.counts.nodes) }
+    ensures { result ≡ table_decision sheet.now.arcs.now sheet.now.counts places.now list.now }
 {
-    let n = counts.arcs;
-    if !all_legal(arcs, places, n) {
+    let n = sheet.counts.arcs;
+    if !all_legal(sheet.arcs, places, n) {
         return false;
     }
-    if !all_allowed(arcs, list, n) {
+    if !all_allowed(sheet.arcs, list, n) {
         return false;
     }
-    if !all_balanced(arcs, list, counts.nodes, n) {
+    if !all_balanced(sheet.arcs, list, sheet.counts.nodes, n) {
         return false;
     }
-    let end = STRIDE * counts.edges;
-    let layers = counts.layers;
-    let sum = wide(total(&arcs[0..end], &first[0..layers], places));
-    same(signed(sum), bound(arcs, list, n))
+    i64::from(sheet_total(sheet, places)) == bound(sheet.arcs, list, n)
 }
 
 // The same for longer slices, whose excess is not looked at.
-pub fn judge(arcs: &[u32], first: &[u16], places: &[u16], list: &[i32], counts: Counts) -> bool
-    requires holds { Holds first.now arcs.now counts }
-    requires arcs_in_bounds { (counts.arcs ≤ length list.now) × (counts.nodes ≤ length places.now) }
-    ensures { result ≡ table_decision arcs.now counts (take counts.nodes places.now)
-        (take counts.arcs list.now) }
+pub fn judge(sheet: &Loaded, places: &[u16], list: &[i32]) -> bool
+    requires { (sheet.now.counts.arcs ≤ length list.now) × (sheet.now.counts.nodes ≤ length places.now) }
+    ensures { result ≡ table_decision sheet.now.arcs.now sheet.now.counts (take sheet.now.counts.nodes places.now)
+        (take sheet.now.counts.arcs list.now) }
 {
-    let nodes = counts.nodes;
-    let n = counts.arcs;
-    judge_whole(arcs, first, &places[0..nodes], &list[0..n], counts)
-}
-
-// The total of a sheet's packed edges, with room for the sum after each layer.
-fn total(edges: &[u32], first: &[u16], places: &[u16]) -> u32
-    ensures { result ≡ min u32_most (lengths_of places.now edges.now) }
-{
-    let mut sums = [0u32; MAX_LAYERS as usize];
-    totals::total(edges, first, places, &mut sums)
+    judge_whole(
+        sheet,
+        &places[..sheet.counts.nodes],
+        &list[..sheet.counts.arcs],
+    )
 }

@@ -10,8 +10,8 @@ ghost use Rattle.checker.specs.inside.Sizes.{amount_size, balance_size, bound_si
 ghost use Rattle.checker.specs.inside.Table.{HasArc, Table};
 ghost use Rattle.checker.specs.inside.Balances.{Within, Shifted, Brought, Balanced};
 
-use crate::arc::{allowed_at, legal_at, part, term};
-use crate::signed::{less, opposite, plus, same, widen};
+use crate::arc::{allowed_at, legal_at, term};
+use network::inside::part_of;
 use network::layout::{HEAD, TAIL};
 use sheet::limits::MAX_NODES;
 
@@ -20,14 +20,7 @@ pub fn all_legal(arcs: &[u32], places: &[u16], n: usize) -> bool
     requires { Table arcs.now n }
     ensures { result ≡ all (legal (integers places.now)) (arcs_to arcs.now n) }
 {
-    let mut i = 0;
-    while i < n {
-        if !legal_at(arcs, places, i) {
-            return false;
-        }
-        i += 1;
-    }
-    true
+    (0..n).all(|i| legal_at(arcs, places, i))
 }
 
 // Every flow is within its limits.
@@ -36,14 +29,7 @@ pub fn all_allowed(arcs: &[u32], list: &[i32], n: usize) -> bool
     requires n_in_bounds { n ≤ length list.now }
     ensures { result ≡ all allowed (upto n (flow_at arcs.now list.now)) }
 {
-    let mut i = 0;
-    while i < n {
-        if !allowed_at(arcs, list, i) {
-            return false;
-        }
-        i += 1;
-    }
-    true
+    (0..n).all(|i| allowed_at(arcs, list, i))
 }
 
 // Adds x at node v; ground is past the slice.
@@ -53,7 +39,7 @@ fn shift(balance: &mut [i64], v: usize, x: i64)
     ensures { Shifted balance.old v x balance.new }
 {
     if v < balance.len() {
-        balance[v] = plus(balance[v], x);
+        balance[v] += x;
     }
 }
 
@@ -64,8 +50,8 @@ fn bring(arcs: &[u32], list: &[i32], i: usize, balance: &mut [i64])
     requires within { Within balance.old balance_size }
     ensures { Brought (flow_at arcs.now list.now i) balance.old balance.new }
 {
-    shift(balance, part(arcs, i, HEAD), widen(list[i]));
-    shift(balance, part(arcs, i, TAIL), opposite(list[i]));
+    shift(balance, part_of(arcs, i, HEAD), i64::from(list[i]));
+    shift(balance, part_of(arcs, i, TAIL), -i64::from(list[i]));
 }
 
 // Adds what the first n flows bring to each node.
@@ -75,10 +61,8 @@ fn balances(arcs: &[u32], list: &[i32], n: usize, balance: &mut [i64])
     requires within { Within balance.old 0 }
     ensures { Balanced arcs.now list.now n balance.old balance.new }
 {
-    let mut i = 0;
-    while i < n {
+    for i in 0..n {
         bring(arcs, list, i, balance);
-        i += 1;
     }
 }
 
@@ -87,14 +71,7 @@ fn zeros(balance: &[i64], n: usize) -> bool
     requires { n ≤ length balance.now }
     ensures { result ≡ below n (λ v. eqZ (get_or balance.now v (pos 0)) (pos 0)) }
 {
-    let mut i = 0;
-    while i < n {
-        if !same(balance[i], 0) {
-            return false;
-        }
-        i += 1;
-    }
-    true
+    (0..n).all(|v| balance[v] == 0)
 }
 
 // Every node is in balance.
@@ -115,10 +92,8 @@ pub fn bound(arcs: &[u32], list: &[i32], n: usize) -> i64
     ensures { (result ≡ sum bound_term (upto n (flow_at arcs.now list.now))) × (nat_abs result ≤ bound_size) }
 {
     let mut result: i64 = 0;
-    let mut i = 0;
-    while i < n {
-        result = less(result, term(arcs, list, i));
-        i += 1;
+    for i in 0..n {
+        result -= term(arcs, list, i);
     }
     result
 }

@@ -8,6 +8,7 @@ pub mod Cuts
 pub mod Determined
 pub mod Finishes
 pub mod Floods
+pub mod Found
 pub mod Flows
 pub mod Growing
 pub mod LeastStep

@@ -1,5 +1,5 @@
 -- What the call answers: flows and potentials of the network that the packed arcs are, and 0 in the other numbers of the nodes.
-use Rattle.std.specs.Prelude.{ℕ, ◌+◌, ◌-◌, ◌*◌, ◌≤◌, ◌<◌, ◌≡◌, List, T, ℤ, pos, ◌-ℤ◌, length}
+use Rattle.std.specs.Prelude.{Result, Ok, Err, ℕ, ◌+◌, ◌-◌, ◌*◌, ◌≤◌, ◌<◌, ◌≡◌, List, T, ℤ, pos, ◌-ℤ◌, length}
 use Rattle.network.specs.Sums.{upto}
 use Rattle.network.specs.Network.{LeftmostLeast}
 use Rattle.network.specs.Flows.{rules, complementary}
@@ -7,8 +7,7 @@ use Rattle.network.specs.Packed.{flow_zero, high_none}
 use Rattle.network.specs.Net.{at, Net, arcs, meant}
 use Rattle.network.specs.Nodes.{size, potentials, node_stride, potential_zero}
 use Rattle.circulation.specs.Input.{Valid}
-use Rattle.circulation.specs.declared.Answer.{Answer}
-use Rattle.circulation.specs.declared.Answer.TheVariants.{Solved, Malformed}
+use Rattle.circulation.specs.declared.Malformed.{Malformed}
 
 -- stored flows as integers
 abbrev pub flows_of : ℕ → (ℕ → ℕ) → List ℤ
@@ -39,9 +38,9 @@ pub data Finding : Type 0 where
   malformed : Finding
 
 -- what each case of the code's answer stands for
-abbrev pub finding : Answer → Finding
-finding Solved = Finding.solved
-finding Malformed = Finding.malformed
+abbrev pub finding : Result (Unit {0}) Malformed → Finding
+finding (Ok done) = Finding.solved
+finding (Err refused) = Finding.malformed
 
 -- what each finding says, with flows and nodes before and after; which of the flows that make a solution is left open
 abbrev pub Means : (N : Net) (x₀ nodes₀ x nodes : List ℕ) → Finding → Type 0

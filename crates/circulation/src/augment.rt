@@ -6,9 +6,10 @@ ghost use Rattle.network.specs.Net.{at, net};
 ghost use Rattle.network.specs.Limits.{most_nodes};
 ghost use Rattle.network.specs.Nodes.{deficit_zero, deficits, potentials, residuals, size};
 
-use crate::arc::{flow_of, head_of, set_flow, tail_of};
-use crate::nodes::{get, least};
+use crate::nodes::get;
 use crate::start::charge;
+use network::inside::part_of;
+use network::layout::{HEAD, TAIL};
 use network::nodes::{DEFICIT, DEFICIT_ZERO, PARENT, RESIDUAL};
 
 // Moves as much as can be between s, which has a deficit, and t, which has an excess.
@@ -28,10 +29,7 @@ fn amount(nodes: &[u32], s: usize, t: usize) -> usize
         × (0 < at (residuals nodes.now) t) }
     ensures { Amount s t result (at (deficits nodes.now)) (at (residuals nodes.now)) }
 {
-    least(
-        DEFICIT_ZERO - get(nodes, t, DEFICIT),
-        get(nodes, t, RESIDUAL),
-    )
+    (DEFICIT_ZERO - get(nodes, t, DEFICIT)).min(get(nodes, t, RESIDUAL))
 }
 
 // Walks back from t to s and moves d over each arc.
@@ -41,6 +39,7 @@ fn walk(arcs: &[u32], flows: &mut [u32], nodes: &[u32], s: usize, t: usize, d: u
     ensures { Walked (net arcs.now (length flows.old)) s t d (potentials nodes.now)
         (deficits nodes.now) flows.old flows.new }
 {
+    // A while: the next node is the other end of the arc that a node was reached over.
     let mut v = t;
     while v != s {
         v = push(arcs, flows, get(nodes, v, PARENT), v, d);
@@ -52,13 +51,12 @@ fn push(arcs: &[u32], flows: &mut [u32], i: usize, v: usize, d: usize) -> usize
     requires { Pushable (net arcs.now (length flows.old)) flows.old i v d }
     ensures { Pushed (net arcs.now (length flows.old)) flows.old i v d flows.new result }
 {
-    let t = tail_of(arcs, i);
-    let x = flow_of(flows, i);
+    let t = part_of(arcs, i, TAIL);
+    let x = flows[i] as usize;
     if t == v {
-        let u = head_of(arcs, i);
-        set_flow(flows, i, x + d);
-        return u;
+        flows[i] = (x + d) as u32;
+        return part_of(arcs, i, HEAD);
     }
-    set_flow(flows, i, x - d);
+    flows[i] = (x - d) as u32;
     t
 }

@@ -5,18 +5,18 @@ ghost use Rattle.network.specs.WellFormed.{WellFormed};
 ghost use Rattle.circulation.specs.inside.Slackness.{Small};
 ghost use Rattle.network.specs.Nodes.{column, node_stride, potentials, size};
 
-use crate::arc::{head_of, kink_of, tail_of};
 use crate::nodes::get;
-use network::layout::KINK_ZERO;
+use network::inside::part_of;
+use network::layout::{HEAD, KINK, KINK_ZERO, TAIL};
 use network::nodes::POTENTIAL;
 
-// Number k of the head of arc i of m.
+// Number k of the head of arc i of m. It and `at_tail` are two: one function would have the end as its sixth parameter.
 pub fn at_head(arcs: &[u32], nodes: &[u32], i: usize, k: usize, m: usize) -> usize
     requires well_formed { WellFormed (net arcs.now m) (size nodes.now) }
     requires i_lt_m { (i < m) × (k < node_stride) }
     ensures { result ≡ at (column k nodes.now) (head (net arcs.now m) i) }
 {
-    get(nodes, head_of(arcs, i), k)
+    get(nodes, part_of(arcs, i, HEAD), k)
 }
 
 // Number k of the tail of arc i of m.
@@ -25,7 +25,7 @@ pub fn at_tail(arcs: &[u32], nodes: &[u32], i: usize, k: usize, m: usize) -> usi
     requires i_lt_m { (i < m) × (k < node_stride) }
     ensures { result ≡ at (column k nodes.now) (tail (net arcs.now m) i) }
 {
-    get(nodes, tail_of(arcs, i), k)
+    get(nodes, part_of(arcs, i, TAIL), k)
 }
 
 // Where the head of arc i of m stands, with KINK_ZERO added.
@@ -45,5 +45,5 @@ pub fn asks_at(arcs: &[u32], nodes: &[u32], i: usize, m: usize) -> usize
     requires i_lt_m { i < m }
     ensures { result ≡ asks (net arcs.now m) (at (potentials nodes.now)) i }
 {
-    at_tail(arcs, nodes, i, POTENTIAL, m) + kink_of(arcs, i)
+    at_tail(arcs, nodes, i, POTENTIAL, m) + part_of(arcs, i, KINK)
 }

@@ -24,11 +24,9 @@ fn settle(nodes: &mut [u32])
 {
     let n = count_of(nodes);
     let ground = get(nodes, n - 1, POTENTIAL);
-    let mut v = 0;
-    while v < n {
+    for v in 0..n {
         let p = get(nodes, v, POTENTIAL);
         put(nodes, v, POTENTIAL, p + POTENTIAL_ZERO - ground);
-        v += 1;
     }
 }
 
@@ -38,9 +36,7 @@ fn clear_others(nodes: &mut [u32])
     ensures zeroed { Zeroed node_stride nodes.new }
     ensures nodes_unchanged { potentials nodes.new ≡ potentials nodes.old }
 {
-    let mut k = 1;
-    while k < NODE_STRIDE {
+    for k in 1..NODE_STRIDE {
         fill(nodes, k, 0);
-        k += 1;
     }
 }

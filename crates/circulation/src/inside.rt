@@ -1,5 +1,4 @@
 // The leaves that `leftmost` shares: they ask for something, so they are no public calls.
-pub use crate::arc::{flow_of, head_of, high_of, low_of, tail_of};
 pub use crate::ends::{asks_at, at_head, at_tail, stands_at};
 pub use crate::finish::finish;
 pub use crate::input::low_start;

@@ -1,8 +1,8 @@
 // The primal-dual method: flows and potentials of a network that fit each other, least in cost and leftmost among the least.
 // Numbers are stored with something added, so that all are natural; sums and tests are on 64 bits, the slices hold 32.
+// Between `usize` and the stored types a number goes by `as`: there is no `From`, and `try_from` would test what is proved.
 #![tactic(auto)]
 
-mod arc;
 mod augment;
 mod ends;
 mod finish;
@@ -32,21 +32,11 @@ use crate::search::{flood, search, source};
 use crate::start::{count_deficits, saturate};
 use network::nodes::NODE_STRIDE;
 
-// What solve answers: a solution, or that the input is not taken.
+// The input is not taken.
 #[derive(Clone, Copy)]
-pub enum Answer {
-    Solved,
-    Malformed,
-}
+pub struct Malformed;
 
-// A node, or none.
-#[derive(Clone, Copy)]
-enum Found {
-    At(usize),
-    Nothing,
-}
-
-// Whether solve takes the first arcs, so many, between so many nodes, where the potentials to start from are feasible.
+// Whether solve takes the first arcs, so many, between so many nodes, if the potentials to start from are feasible.
 pub fn takes(arcs: &[u32], count: usize, nodes: usize) -> bool
     ensures { Tested (ArcsTaken (net arcs.now count) nodes) result }
 {
@@ -57,19 +47,19 @@ pub fn takes(arcs: &[u32], count: usize, nodes: usize) -> bool
 // work in. At the end the potentials are relative to ground's, with 2^28 added, and the other numbers are 0. Which flows it leaves
 // is open: any that are allowed, balanced and in complementary slackness with the potentials. Malformed leaves both slices as they
 // were.
-pub fn solve(arcs: &[u32], flows: &mut [u32], nodes: &mut [u32]) -> Answer
+pub fn solve(arcs: &[u32], flows: &mut [u32], nodes: &mut [u32]) -> Result<(), Malformed>
     ensures { Means (net arcs.now (length flows.old)) flows.old nodes.old
         flows.new nodes.new (finding result) }
 {
     if !valid(arcs, nodes, flows.len()) {
-        return Answer::Malformed;
+        return Err(Malformed);
     }
     let end = NODE_STRIDE * count_of(nodes);
     whole(arcs, flows, &mut nodes[0..end]);
-    Answer::Solved
+    Ok(())
 }
 
-// Solves a valid network, where nothing stands behind the last node.
+// Solves a valid network; nothing stands behind the last node.
 fn whole(arcs: &[u32], flows: &mut [u32], nodes: &mut [u32])
     requires { Valid (net arcs.now (length flows.old)) (size nodes.old) (potentials nodes.old) }
     ensures solution { Solution (net arcs.now (length flows.old)) (size nodes.old) (at flows.new)
@@ -81,6 +71,7 @@ fn whole(arcs: &[u32], flows: &mut [u32], nodes: &mut [u32])
     finish(nodes);
 }
 
+// The three slices go on one by one: the contract of `solve` speaks of each.
 // The method: searches and augments until no node has a deficit.
 fn run(arcs: &[u32], flows: &mut [u32], nodes: &mut [u32])
     requires { Valid (net arcs.now (length flows.old)) (size nodes.old) (potentials nodes.old) }
@@ -89,10 +80,7 @@ fn run(arcs: &[u32], flows: &mut [u32], nodes: &mut [u32])
 {
     saturate(arcs, flows, nodes);
     count_deficits(arcs, flows, nodes);
-    loop {
-        let Found::At(s) = source(nodes) else {
-            return;
-        };
+    while let Some(s) = source(nodes) {
         let t = search(arcs, flows, nodes, s);
         augment(arcs, flows, nodes, s, t);
     }

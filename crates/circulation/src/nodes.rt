@@ -1,4 +1,4 @@
-// The numbers of a node.
+// The numbers of a node. The nodes are one slice with a stride, and no slice of structs: the contract of `solve` says so.
 ghost use Rattle.std.specs.Prelude.{◌≡◌, ℕ, ◌≤◌, ◌<◌};
 ghost use Rattle.circulation.specs.inside.Stores.{Apart, Stored};
 ghost use Rattle.network.specs.Net.{at};
@@ -37,20 +37,7 @@ pub fn fill(nodes: &mut [u32], k: usize, a: usize)
     ensures by_index { (v : ℕ) → v < size nodes.old → at (column k nodes.new) v ≡ a }
     ensures apart { Apart k nodes.old nodes.new }
 {
-    let n = count_of(nodes);
-    let mut v = 0;
-    while v < n {
+    for v in 0..count_of(nodes) {
         put(nodes, v, k, a);
-        v += 1;
     }
-}
-
-// The lesser number.
-pub fn least(a: usize, b: usize) -> usize
-    ensures { (result ≤ a) × (result ≤ b) × (0 < a → 0 < b → 0 < result) }
-{
-    if a < b {
-        return a;
-    }
-    b
 }

@@ -11,7 +11,7 @@ ghost use Rattle.network.specs.Nodes.{potentials, orders, size};
 use crate::nodes::{count_of, get, put};
 use network::nodes::{ORDER, POTENTIAL};
 
-// Raises node v by d where it is reached.
+// Raises node v by d if it is reached.
 fn raise(nodes: &mut [u32], v: usize, d: usize)
     requires v_bound { (v < size nodes.old) × (v < most_nodes) }
     requires d_bound { 0 < at (orders nodes.old) v → at (potentials nodes.old) v + d ≤ potential_limit }
@@ -34,11 +34,8 @@ fn raise_all(nodes: &mut [u32], d: usize)
         (at (potentials nodes.new)) }
     ensures apart { Apart 0 nodes.old nodes.new }
 {
-    let n = count_of(nodes);
-    let mut v = 0;
-    while v < n {
+    for v in 0..count_of(nodes) {
         raise(nodes, v, d);
-        v += 1;
     }
 }
 

@@ -10,28 +10,22 @@ ghost use Rattle.network.specs.Packed.{word_limit};
 ghost use Rattle.network.specs.Limits.{most_nodes};
 ghost use Rattle.network.specs.Nodes.{deficit_zero, deficits, orders, residuals, size};
 
-use crate::Found;
-use crate::arc::{flow_of, head_of, high_of, low_of, tail_of};
 use crate::ends::{at_head, at_tail};
-use crate::nodes::{count_of, fill, get, least, put};
+use crate::nodes::{count_of, fill, get, put};
 use crate::raise::raise_reached;
-use crate::step::{choose, step_at};
+use crate::step::choose;
+use network::inside::part_of;
+use network::layout::{HEAD, HIGH, LOW, TAIL};
 use network::nodes::{DEFICIT, DEFICIT_ZERO, ORDER, PARENT, RESIDUAL};
 
 // A node with less inflow than outflow, the last one.
-pub fn source(nodes: &[u32]) -> Found
+pub fn source(nodes: &[u32]) -> Option<usize>
     requires { size nodes.now ≤ most_nodes }
     ensures { Source (size nodes.now) (at (deficits nodes.now)) result }
 {
-    let mut v = count_of(nodes);
-    while v > 0 {
-        let u = v - 1;
-        if get(nodes, u, DEFICIT) > DEFICIT_ZERO {
-            return Found::At(u);
-        }
-        v = u;
-    }
-    Found::Nothing
+    (0..count_of(nodes))
+        .rev()
+        .find(|&v| get(nodes, v, DEFICIT) > DEFICIT_ZERO)
 }
 
 // Reaches nodes from s on until one has an excess. Each time the next arc is looked for from the last one on.
@@ -43,6 +37,7 @@ pub fn search(arcs: &[u32], flows: &[u32], nodes: &mut [u32], s: usize) -> usize
 {
     let residual = get(nodes, s, DEFICIT) - DEFICIT_ZERO;
     begin(nodes, s, residual);
+    // A loop: it ends at a node with an excess, and nothing stands behind it.
     let mut count = 1;
     let mut start = 0;
     loop {
@@ -65,12 +60,10 @@ pub fn flood(arcs: &[u32], flows: &[u32], nodes: &mut [u32])
     let n = count_of(nodes);
     let g = n - 1;
     begin(nodes, g, 1);
-    let mut count = 1;
     let mut start = 0;
-    while count < n {
+    for count in 1..n {
         let v = extend(arcs, flows, nodes, start, g, count);
         start = get(nodes, v, PARENT);
-        count += 1;
     }
 }
 
@@ -99,8 +92,7 @@ fn extend(
     ensures { Extended (net arcs.now (length flows.now)) s count
         flows.now nodes.old nodes.new result }
 {
-    let i = choose(arcs, flows, nodes, start);
-    let d = step_at(arcs, flows, nodes, i);
+    let (i, d) = choose(arcs, flows, nodes, start);
     raise_reached(nodes, d);
     let v = far(arcs, nodes, i, flows.len());
     let residual = residual_over(arcs, flows, nodes, i, v);
@@ -108,7 +100,7 @@ fn extend(
     v
 }
 
-// The end of arc i of m that is not reached, where the other is.
+// The end of arc i of m that is not reached; the other is.
 fn far(arcs: &[u32], nodes: &[u32], i: usize, m: usize) -> usize
     requires well_formed { WellFormed (net arcs.now m) (size nodes.now) }
     requires i_lt_m { i < m }
@@ -118,9 +110,9 @@ fn far(arcs: &[u32], nodes: &[u32], i: usize, m: usize) -> usize
         → result ≡ tail (net arcs.now m) i }
 {
     if at_head(arcs, nodes, i, ORDER, m) == 0 {
-        return head_of(arcs, i);
+        return part_of(arcs, i, HEAD);
     }
-    tail_of(arcs, i)
+    part_of(arcs, i, TAIL)
 }
 
 // What can be moved over arc i to its end v.
@@ -134,17 +126,13 @@ fn residual_over(arcs: &[u32], flows: &[u32], nodes: &[u32], i: usize, v: usize)
         (at (residuals nodes.now)) i v result }
     ensures upper_bound { result < word_limit }
 {
-    let x = flow_of(flows, i);
-    if tail_of(arcs, i) == v {
-        return least(
-            high_of(arcs, i) - x,
-            at_head(arcs, nodes, i, RESIDUAL, flows.len()),
-        );
+    let x = flows[i] as usize;
+    if part_of(arcs, i, TAIL) == v {
+        let end = at_head(arcs, nodes, i, RESIDUAL, flows.len());
+        return end.min(part_of(arcs, i, HIGH) - x);
     }
-    least(
-        x - low_of(arcs, i),
-        at_tail(arcs, nodes, i, RESIDUAL, flows.len()),
-    )
+    let end = at_tail(arcs, nodes, i, RESIDUAL, flows.len());
+    end.min(x - part_of(arcs, i, LOW))
 }
 
 // Node v is reached.

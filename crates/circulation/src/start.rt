@@ -9,11 +9,13 @@ ghost use Rattle.network.specs.Packed.{word_limit};
 ghost use Rattle.network.specs.Limits.{most_nodes};
 ghost use Rattle.network.specs.Nodes.{deficit_zero, deficits, potentials, size};
 
-use crate::arc::{flow_of, head_of, high_of, low_of, set_flow, tail_of};
 use crate::ends::{asks_at, stands_at};
 use crate::limits::NO_FLOW;
 use crate::nodes::{fill, get, put};
+use network::inside::part_of;
+use network::layout::{HEAD, HIGH, LOW, TAIL};
 use network::nodes::{DEFICIT, DEFICIT_ZERO};
+use std::cmp::Ordering;
 
 // The flows to start with.
 pub fn saturate(arcs: &[u32], flows: &mut [u32], nodes: &[u32])
@@ -23,11 +25,8 @@ pub fn saturate(arcs: &[u32], flows: &mut [u32], nodes: &[u32])
         (at flows.new i) }
 {
     let m = flows.len();
-    let mut i = 0;
-    while i < m {
-        let y = first_flow(arcs, nodes, i, m);
-        set_flow(flows, i, y);
-        i += 1;
+    for (i, flow) in flows.iter_mut().enumerate() {
+        *flow = first_flow(arcs, nodes, i, m) as u32;
     }
 }
 
@@ -40,20 +39,18 @@ pub fn first_flow(arcs: &[u32], nodes: &[u32], i: usize, m: usize) -> usize
 {
     let stands = stands_at(arcs, nodes, i, m);
     let asks = asks_at(arcs, nodes, i, m);
-    filled(stands, asks, low_of(arcs, i), high_of(arcs, i))
+    filled(stands, asks, part_of(arcs, i, LOW), part_of(arcs, i, HIGH))
 }
 
 // The flow to start from, by where the head stands.
 fn filled(stands: usize, asks: usize, low: usize, high: usize) -> usize
     ensures { Filled stands asks low high result }
 {
-    if stands < asks {
-        return low;
+    match stands.cmp(&asks) {
+        Ordering::Less => low,
+        Ordering::Equal => NO_FLOW,
+        Ordering::Greater => high,
     }
-    if asks < stands {
-        return high;
-    }
-    NO_FLOW
 }
 
 // The deficit of each node.
@@ -68,13 +65,11 @@ pub fn count_deficits(arcs: &[u32], flows: &[u32], nodes: &mut [u32])
     ensures apart { Apart 1 nodes.old nodes.new }
 {
     fill(nodes, DEFICIT, DEFICIT_ZERO);
-    let mut i = 0;
-    while i < flows.len() {
-        let t = tail_of(arcs, i);
-        let h = head_of(arcs, i);
-        charge(nodes, t, h, flow_of(flows, i));
+    for (i, flow) in flows.iter().enumerate() {
+        let t = part_of(arcs, i, TAIL);
+        let h = part_of(arcs, i, HEAD);
+        charge(nodes, t, h, *flow as usize);
         charge(nodes, h, t, NO_FLOW);
-        i += 1;
     }
 }
 

@@ -1,11 +1,11 @@
 -- What the call answers: the lowest potentials of the network that the packed arcs are, or that it has none.
-use Rattle.std.specs.Prelude.{ℕ, ◌-◌, ◌*◌, ◌≤◌, ◌<◌, ◌≡◌, List, ◌++◌, length, take, drop, replicate}
+use Rattle.std.specs.Prelude.{Result, Ok, Err, ℕ, ◌-◌, ◌*◌, ◌≤◌, ◌<◌, ◌≡◌, List, ◌++◌, length, take, drop, replicate}
 use Rattle.network.specs.Network.{Network, Feasible, integers}
 use Rattle.network.specs.Net.{at, Net, meant}
 use Rattle.network.specs.Limits.{kink_size}
 use Rattle.difference.specs.Input.{Taken}
-use Rattle.difference.specs.declared.Answer.{Answer}
-use Rattle.difference.specs.declared.Answer.TheVariants.{Solved, NoSolution, Malformed}
+use Rattle.network.specs.declared.Unsolved.{Unsolved}
+use Rattle.network.specs.declared.Unsolved.TheVariants.{NoSolution, Malformed}
 
 -- the values of n nodes as potentials: without ground's, which is 0
 abbrev pub potentials : ℕ → List ℕ → List ℕ
@@ -38,10 +38,10 @@ pub data Finding : Type 0 where
   malformed : Finding
 
 -- what each case of the code's answer stands for
-abbrev pub finding : Answer → Finding
-finding Solved = Finding.solved
-finding NoSolution = Finding.none
-finding Malformed = Finding.malformed
+abbrev pub finding : Result (Unit {0}) Unsolved → Finding
+finding (Ok done) = Finding.solved
+finding (Err NoSolution) = Finding.none
+finding (Err Malformed) = Finding.malformed
 
 -- what each finding says, with the values before and after; where there are no potentials the first n values are 0
 abbrev pub Means : Net → ℕ → List ℕ → List ℕ → Finding → Type 0

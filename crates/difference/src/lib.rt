@@ -1,9 +1,9 @@
 // The least solution of difference constraints, read off the hard sides of packed arcs: every value starts at 0 and is
-// raised only where an arc forces it.
+// raised only if an arc forces it.
+// Between `usize` and the stored types a number goes by `as`: there is no `From`, and `try_from` would test what is proved.
 #![tactic(auto)]
 
 mod limits;
-mod number;
 mod raise;
 mod sweep;
 
@@ -11,37 +11,19 @@ ghost use Rattle.network.specs.Net.{net};
 ghost use Rattle.difference.specs.Solutions.{finding, Means};
 
 use crate::sweep::run;
-use network::well_formed;
+use network::{Unsolved, well_formed};
 
-// What a step found: every constraint held; some value rose; no solution exists.
+// No solution exists: a constraint asks for what no value meets.
 #[derive(Clone, Copy)]
-enum Found {
-    Same,
-    Changed,
-    Stuck,
-}
-
-// What the whole call found: a solution, that there is none, or input that is not taken.
-#[derive(Clone, Copy)]
-pub enum Answer {
-    Solved,
-    NoSolution,
-    Malformed,
-}
+struct Stuck;
 
 // The least solution, in the first values; the ground's is 0. NoSolution is an answer and no refusal: the first values are
 // then 0. Malformed is the refusal, and leaves every value as it was.
-pub fn least(arcs: &[u32], count: usize, nodes: usize, values: &mut [u32]) -> Answer
+pub fn least(arcs: &[u32], count: usize, nodes: usize, values: &mut [u32]) -> Result<(), Unsolved>
     ensures { Means (net arcs.now count) nodes values.old values.new (finding result) }
 {
-    if nodes > values.len() {
-        return Answer::Malformed;
+    if nodes > values.len() || !well_formed(arcs, count, nodes) {
+        return Err(Unsolved::Malformed);
     }
-    if !well_formed(arcs, count, nodes) {
-        return Answer::Malformed;
-    }
-    if run(arcs, count, &mut values[0..nodes]) {
-        return Answer::Solved;
-    }
-    Answer::NoSolution
+    run(arcs, count, &mut values[..nodes]).map_err(|_| Unsolved::NoSolution)
 }

@@ -5,87 +5,56 @@ ghost use Rattle.network.specs.WellFormed.{WellFormed};
 ghost use Rattle.difference.specs.inside.Constraints.{AllMet, Ready};
 ghost use Rattle.difference.specs.inside.Steps.{Stepped, Swept, Ran};
 
-use crate::Found;
-use crate::raise::{both, raise_arc};
-use network::clear;
+use crate::Stuck;
+use crate::raise::raise_arc;
 
-// One pass over the arcs, from the first on; an arc that is stuck ends it.
-fn forward(arcs: &[u32], count: usize, values: &mut [u32]) -> Found
+// One pass over the arcs, back from the last or on from the first, and whether a value rose; an arc that is stuck ends it.
+fn along<const BACK: bool>(arcs: &[u32], count: usize, values: &mut [u32]) -> Result<bool, Stuck>
     requires { Ready (net arcs.now count) values.old }
     ensures { Stepped (AllMet (net arcs.now count)) (net arcs.now count) values.old values.new result }
 {
-    let mut found = Found::Same;
-    let mut i = 0;
-    while i < count {
-        found = both(found, raise_arc(arcs, count, i, values));
-        if let Found::Stuck = found {
-            return Found::Stuck;
-        }
-        i += 1;
+    let mut rose = false;
+    for k in 0..count {
+        let i = if BACK { count - 1 - k } else { k };
+        rose |= raise_arc(arcs, count, i, values)?;
     }
-    found
+    Ok(rose)
 }
 
-// The same, from the last arc back.
-fn backward(arcs: &[u32], count: usize, values: &mut [u32]) -> Found
-    requires { Ready (net arcs.now count) values.old }
-    ensures { Stepped (AllMet (net arcs.now count)) (net arcs.now count) values.old values.new result }
-{
-    let mut found = Found::Same;
-    let mut i = count;
-    while i > 0 {
-        i -= 1;
-        found = both(found, raise_arc(arcs, count, i, values));
-        if let Found::Stuck = found {
-            return Found::Stuck;
-        }
-    }
-    found
-}
-
-// One pass over the arcs, forward or back.
-fn pass(arcs: &[u32], count: usize, back: bool, values: &mut [u32]) -> Found
+// The same, in the direction asked.
+fn pass(arcs: &[u32], count: usize, back: bool, values: &mut [u32]) -> Result<bool, Stuck>
     requires { Ready (net arcs.now count) values.old }
     ensures { Stepped (AllMet (net arcs.now count)) (net arcs.now count) values.old values.new result }
 {
     if back {
-        return backward(arcs, count, values);
+        along::<true>(arcs, count, values)
+    } else {
+        along::<false>(arcs, count, values)
     }
-    forward(arcs, count, values)
 }
 
-// The least solution in values, and whether there is one; where there is none every value is 0.
-pub fn run(arcs: &[u32], count: usize, values: &mut [u32]) -> bool
+// The least solution in values, and whether there is one; if there is none every value is 0.
+pub fn run(arcs: &[u32], count: usize, values: &mut [u32]) -> Result<(), Stuck>
     requires { WellFormed (net arcs.now count) (length values.old) }
     ensures { Ran (net arcs.now count) (length values.old) values.new result }
 {
-    if sweep(arcs, count, values) {
-        return true;
+    let swept = sweep(arcs, count, values);
+    if swept.is_err() {
+        values.fill(0);
     }
-    clear(values);
-    false
+    swept
 }
 
 // Passes in alternating directions, at most as many as there are nodes with ground; whether a solution exists.
-fn sweep(arcs: &[u32], count: usize, values: &mut [u32]) -> bool
+fn sweep(arcs: &[u32], count: usize, values: &mut [u32]) -> Result<(), Stuck>
     requires { WellFormed (net arcs.now count) (length values.old) }
     ensures { Swept (net arcs.now count) (length values.old) values.new result }
 {
-    clear(values);
-    let mut back = false;
-    let mut k = 0;
-    while k < values.len() {
-        match pass(arcs, count, back, values) {
-            Found::Same => {
-                return true;
-            }
-            Found::Changed => {}
-            Found::Stuck => {
-                return false;
-            }
+    values.fill(0);
+    for k in 0..values.len() {
+        if !pass(arcs, count, k % 2 == 1, values)? {
+            return Ok(());
         }
-        back = !back;
-        k += 1;
     }
-    false
+    Err(Stuck)
 }

@@ -1,8 +1,10 @@
 -- What drawing a sheet answers and leaves in the two lent slices (document 01, "Drawing and total", "The pull list",
 -- "Refusals"), by what reading gives. Only the list is left open: any list will do that meets the rules and has the total
 -- as its bound.
-use Rattle.std.specs.Prelude.{ℕ, ◌≤◌, ◌<◌, ◌≡◌, List, T, ℤ, pos, length, take, drop}
+use Rattle.std.specs.Prelude.{ℕ, ◌≤◌, ◌<◌, ◌≡◌, List, T, ℤ, pos, length, take, drop, Ok, Err}
+use Rattle.std.specs.Prelude.{Result as Answer}
 use Rattle.leb128.specs.Reply.{Reply}
+use Rattle.leb128.specs.declared.Refusal.{Refusal}
 use Rattle.leb128.specs.Refusals.{slice_short}
 use Rattle.leb128.specs.Format.{Result}
 use Rattle.leb128.specs.Format.Result.{elements}
@@ -10,17 +12,15 @@ use Rattle.drawing.specs.Sheet.{Sheet, sheet_of}
 use Rattle.drawing.specs.Drawing.{NoDrawing, LeftmostDrawing, total_length}
 use Rattle.drawing.specs.Certificate.{certificate_size, meets_rules, bound}
 use Rattle.engine.specs.Refusals.{no_drawing}
-use Rattle.engine.specs.declared.Answer.{Answer}
-use Rattle.engine.specs.declared.Answer.TheVariants as answer
 
 -- the total, or the refusal
 abbrev pub Drawn : Type 0
 Drawn = Reply ℕ
 
--- what each case of the code's answer stands for
-unfoldable pub drawn_of : Answer → Drawn
-drawn_of (answer.Drawn total) = Reply.value total
-drawn_of (answer.Refused r) = Reply.refused r
+-- what the code's answer stands for
+unfoldable pub drawn_of : Answer ℕ Refusal → Drawn
+drawn_of (Ok total) = Reply.value total
+drawn_of (Err r) = Reply.refused r
 
 -- both slices, of so many elements, are long enough: a place for each node, a number for each edge and two for each node
 pub record Room (S : Sheet) (places list : ℕ) : Type 0 where

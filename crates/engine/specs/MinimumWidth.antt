@@ -1,7 +1,9 @@
 -- What the call for the minimum width answers (document 02, "The narrowest strip"), by what reading gives. The sheet's own width
 -- is read and tested, and then disregarded: only the sheet at other widths is spoken of.
-use Rattle.std.specs.Prelude.{ℕ, ◌≤◌, ◌<◌, ◌≡◌}
+use Rattle.std.specs.Prelude.{ℕ, ◌≤◌, ◌<◌, ◌≡◌, Ok, Err}
+use Rattle.std.specs.Prelude.{Result as Answer}
 use Rattle.leb128.specs.Reply.{Reply}
+use Rattle.leb128.specs.declared.Refusal.{Refusal}
 use Rattle.leb128.specs.Source.{refusal}
 use Rattle.leb128.specs.Format.{Result}
 use Rattle.leb128.specs.Format.Result.{elements}
@@ -11,17 +13,15 @@ use Rattle.drawing.specs.Drawing.{NoDrawing}
 use Rattle.drawing.specs.Widths.{TotalAt}
 use Rattle.engine.specs.Refusals.{no_width}
 use Rattle.engine.specs.declared.Narrowest.{Narrowest}
-use Rattle.engine.specs.declared.Minimum.{Minimum}
-use Rattle.engine.specs.declared.Minimum.TheVariants as minimum
 
 -- a width and a total, or the refusal
 abbrev pub Narrowed : Type 0
 Narrowed = Reply Narrowest
 
--- what each case of the code's answer stands for
-unfoldable pub narrowing : Minimum → Narrowed
-narrowing (minimum.Found n) = Reply.value n
-narrowing (minimum.Refused r) = Reply.refused r
+-- what the code's answer stands for
+unfoldable pub narrowing : Answer Narrowest Refusal → Narrowed
+narrowing (Ok n) = Reply.value n
+narrowing (Err r) = Reply.refused r
 
 -- the minimum width and the least total at it: the width is within its limit, and no smaller one has a drawing
 pub record IsMinimum (S : Sheet) (width total : ℕ) : Type 0 where

@@ -4,7 +4,6 @@ use Rattle.leb128.specs.Refusals.{something_follows}
 use Rattle.leb128.specs.Source.{refusal}
 use Rattle.leb128.specs.declared.Refusal.{Refusal}
 use Rattle.sheet.specs.Refusals.{RefusalTo}
-use Rattle.leftmost.specs.Solutions.{Finding}
 
 -- no drawing exists
 abbrev pub no_drawing : ℕ
@@ -13,13 +12,6 @@ no_drawing = 8
 -- no width within the limit has a drawing
 abbrev pub no_width : ℕ
 no_width = 10
-
--- the refusal that a finding about a sheet's arcs gives, 0 where it gives none: no feasible potentials, no drawing. (A sheet's
--- arcs are never malformed.)
-unfoldable pub finding_refusal : Finding → ℕ
-finding_refusal Finding.solved = 0
-finding_refusal Finding.none = no_drawing
-finding_refusal Finding.malformed = no_drawing
 
 -- a refusal of drawing: one with a number from 1 to 8
 abbrev pub DrawRefusal : Refusal → Type 0

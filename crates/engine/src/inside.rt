@@ -1,2 +1,2 @@
-// The total of a sheet's packed arcs at a width, for crates above: it asks for arcs that hold a sheet, so it is no public call.
+// The total of a loaded sheet at a width, for crates above: it asks for a width within the limit, so it is no public call.
 pub use crate::widths::total_at;

@@ -29,10 +29,8 @@ pub fn put_places(nodes: &[u32], count: usize, places: &mut [u16])
     requires count_in_bounds { count ≤ length places.old }
     ensures { places.new ≡ sets places.old 0 (upto count (place_at nodes.now)) }
 {
-    let mut v = 0;
-    while v < count {
+    for v in 0..count {
         places[v] = coordinate(nodes, count, v);
-        v += 1;
     }
 }
 
@@ -50,9 +48,7 @@ pub fn put_list(flows: &[u32], list: &mut [i32])
     requires flows_in_bounds { length flows.now ≤ length list.old }
     ensures { list.new ≡ sets list.old 0 (upto (length flows.now) (number_at flows.now)) }
 {
-    let mut i = 0;
-    while i < flows.len() {
+    for i in 0..flows.len() {
         list[i] = signed(flows[i]);
-        i += 1;
     }
 }

@@ -1,160 +1,117 @@
 // Nodes that are reached, and nodes that will be: a label says how far the source has risen then.
-use crate::entries::end_after;
 use crate::layout::{
     DEFICIT, DEFICIT_ZERO, ENTRY_NODE, EPOCH, FIRST, HIDDEN, HIDDEN_POTENTIAL, LABEL, LABELLED,
     LOOKED, MARK, OPEN, PARENT, POTENTIAL, REACHED, RISEN,
 };
-use crate::slots::{
-    NONE, ahead, kink_of, lesser, limit_of, narrow, of_node, read, set_node, write,
-};
-use crate::stacks::{height, nth, push, set_height, set_nth};
-use network::layout::KINK_ZERO;
+use crate::slices::Slices;
+use crate::slots::narrow;
+use crate::way::Way;
+use network::layout::{KINK, KINK_ZERO};
 
-// Node w is reached. Answers it where it has an excess, else NONE.
-pub fn reach(nodes: &mut [u32], room: &mut [u32], w: u32) -> u32 {
-    hide(nodes, w);
-    push(room, OPEN, w);
-    push(room, REACHED, w);
-    if of_node(nodes, w, DEFICIT) < DEFICIT_ZERO {
-        return w;
+impl Slices<'_> {
+    // Node w is reached. It is answered if it has an excess.
+    pub fn reach(&mut self, w: u32) -> Option<u32> {
+        self.hide(w);
+        self.push(OPEN, w);
+        self.push(REACHED, w);
+        (self.of_node(w, DEFICIT) < DEFICIT_ZERO).then_some(w)
     }
-    NONE
-}
 
-// Hides the potential of node w, which is reached.
-fn hide(nodes: &mut [u32], w: u32) {
-    set_node(nodes, w, HIDDEN_POTENTIAL, of_node(nodes, w, POTENTIAL));
-    set_node(nodes, w, POTENTIAL, HIDDEN);
-}
-
-// Shows the potential of node w, which was reached.
-pub fn show(nodes: &mut [u32], w: u32) {
-    set_node(nodes, w, POTENTIAL, of_node(nodes, w, HIDDEN_POTENTIAL));
-}
-
-// Whether node w is reached.
-fn is_reached(nodes: &[u32], w: u32) -> bool {
-    of_node(nodes, w, POTENTIAL) == HIDDEN
-}
-
-// Labels the nodes beside the reached ones.
-pub fn label_all(arcs: &[u32], flows: &[u32], nodes: &mut [u32], room: &mut [u32]) {
-    let count = height(room, REACHED);
-    let mut k = read(room, LOOKED);
-    while k < count {
-        let u = nth(room, REACHED, k);
-        label_from(arcs, flows, nodes, room, u);
-        k += 1;
+    // Hides the potential of node w, which is reached.
+    fn hide(&mut self, w: u32) {
+        self.set_node(w, HIDDEN_POTENTIAL, self.of_node(w, POTENTIAL));
+        self.set_node(w, POTENTIAL, HIDDEN);
     }
-    write(room, LOOKED, count);
-}
 
-// Labels the nodes beside node u.
-fn label_from(arcs: &[u32], flows: &[u32], nodes: &mut [u32], room: &mut [u32], u: u32) {
-    let end = end_after(nodes, room, u);
-    let mut j = of_node(nodes, u, FIRST) as usize;
-    while j < end {
-        look(arcs, flows, nodes, room, u, read(room, j));
-        j += 1;
+    // Shows the potential of node w, which was reached.
+    pub fn show(&mut self, w: u32) {
+        self.set_node(w, POTENTIAL, self.of_node(w, HIDDEN_POTENTIAL));
     }
-}
 
-// Labels the node of an entry of node u, where it is not reached and the arc not used up.
-fn look(arcs: &[u32], flows: &[u32], nodes: &mut [u32], room: &mut [u32], u: u32, entry: u32) {
-    let w = entry / ENTRY_NODE;
-    let i = entry % ENTRY_NODE / 2;
-    if is_reached(nodes, w) {
-        return;
+    // Whether node w is reached.
+    fn is_reached(&self, w: u32) -> bool {
+        self.of_node(w, POTENTIAL) == HIDDEN
     }
-    if read(flows, i as usize) == limit_of(arcs, i, entry % 2) {
-        return;
-    }
-    let stands = of_node(nodes, u, HIDDEN_POTENTIAL) as usize + KINK_ZERO;
-    let asks = of_node(nodes, w, POTENTIAL) as usize + ahead(kink_of(arcs, i), entry % 2) as usize;
-    if asks < stands {
-        return;
-    }
-    let risen = read(room, RISEN) as usize + (asks - stands);
-    label(nodes, room, w, entry % ENTRY_NODE, narrow(risen));
-}
 
-// Node w can be reached over an arc once the source has risen so far; the least label is kept.
-fn label(nodes: &mut [u32], room: &mut [u32], w: u32, parent: u32, risen: u32) {
-    mark(nodes, room, w);
-    lower(nodes, w, parent, risen);
-}
-
-// Node w is labelled; where it was not, no label is higher.
-fn mark(nodes: &mut [u32], room: &mut [u32], w: u32) {
-    let epoch = read(room, EPOCH);
-    if of_node(nodes, w, MARK) == epoch {
-        return;
-    }
-    set_node(nodes, w, MARK, epoch);
-    set_node(nodes, w, LABEL, NONE);
-    push(room, LABELLED, w);
-}
-
-// The label of node w, where that is lower.
-fn lower(nodes: &mut [u32], w: u32, parent: u32, risen: u32) {
-    if risen < of_node(nodes, w, LABEL) {
-        set_node(nodes, w, LABEL, risen);
-        set_node(nodes, w, PARENT, parent);
-    }
-}
-
-// The least label of a node that is not reached, NONE where there is none; the nodes that are reached leave the stack.
-pub fn least_label(nodes: &[u32], room: &mut [u32]) -> u32 {
-    let count = height(room, LABELLED);
-    let mut least = NONE;
-    let mut kept: u32 = 0;
-    let mut j: u32 = 0;
-    while j < count {
-        let w = nth(room, LABELLED, j);
-        least = lesser(least, open_label(nodes, w));
-        kept = keep(nodes, room, w, kept);
-        j += 1;
-    }
-    set_height(room, LABELLED, kept);
-    least
-}
-
-// The label of node w; NONE where it is reached.
-fn open_label(nodes: &[u32], w: u32) -> u32 {
-    if is_reached(nodes, w) {
-        return NONE;
-    }
-    of_node(nodes, w, LABEL)
-}
-
-// Puts node w behind those that stay on the stack, unless it is reached, and answers how many they are.
-fn keep(nodes: &[u32], room: &mut [u32], w: u32, kept: u32) -> u32 {
-    if is_reached(nodes, w) {
-        return kept;
-    }
-    set_nth(room, LABELLED, kept, w);
-    narrow(kept as usize + 1)
-}
-
-// Reaches the nodes of a label until one has an excess, which is answered; else NONE.
-pub fn reach_labelled(nodes: &mut [u32], room: &mut [u32], risen: u32) -> u32 {
-    let count = height(room, LABELLED);
-    let mut j: u32 = 0;
-    while j < count {
-        let w = nth(room, LABELLED, j);
-        let t = reach_at(nodes, room, w, risen);
-        if t < NONE {
-            return t;
+    // Labels the nodes beside the reached ones.
+    pub fn label_all(&mut self) {
+        let count = self.height(REACHED);
+        for k in self.in_room(LOOKED)..count {
+            self.label_from(self.nth(REACHED, k));
         }
-        j += 1;
+        self.set_room(LOOKED, count);
     }
-    NONE
-}
 
-// Reaches node w where that is its label. Answers it where it has an excess, else NONE.
-fn reach_at(nodes: &mut [u32], room: &mut [u32], w: u32, risen: u32) -> u32 {
-    if of_node(nodes, w, LABEL) != risen {
-        return NONE;
+    // Labels the nodes beside node u.
+    fn label_from(&mut self, u: u32) {
+        let end = self.end_after(u).min(self.room.len());
+        for j in self.of_node(u, FIRST) as usize..end {
+            self.look(u, self.in_room(j));
+        }
     }
-    reach(nodes, room, w)
+
+    // Labels the node of an entry of node u, if it is not reached and the arc not used up.
+    fn look(&mut self, u: u32, entry: u32) {
+        let w = entry / ENTRY_NODE;
+        let way = Way::of(entry % ENTRY_NODE);
+        if self.is_reached(w) || self.flow(way.arc) == way.limit(self) {
+            return;
+        }
+        let stands = self.of_node(u, HIDDEN_POTENTIAL) as usize + KINK_ZERO;
+        let ahead = way.ahead(self.of_arc(way.arc, KINK));
+        let asks = self.of_node(w, POTENTIAL) as usize + ahead as usize;
+        if let Some(more) = asks.checked_sub(stands) {
+            let risen = narrow(self.in_room(RISEN) as usize + more);
+            self.label(w, entry % ENTRY_NODE, risen);
+        }
+    }
+
+    // Node w can be reached over an arc once the source has risen so far; the least label is kept.
+    fn label(&mut self, w: u32, parent: u32, risen: u32) {
+        if self.mark(w) || risen < self.of_node(w, LABEL) {
+            self.set_node(w, LABEL, risen);
+            self.set_node(w, PARENT, parent);
+        }
+    }
+
+    // Node w will have a label; whether it had none.
+    fn mark(&mut self, w: u32) -> bool {
+        let epoch = self.in_room(EPOCH);
+        if self.of_node(w, MARK) == epoch {
+            return false;
+        }
+        self.set_node(w, MARK, epoch);
+        self.push(LABELLED, w);
+        true
+    }
+
+    // The least label of a node that is not reached, if there is one; the nodes that are reached leave the stack.
+    pub fn least_label(&mut self) -> Option<u32> {
+        let mut least = None;
+        let mut kept: u32 = 0;
+        for j in 0..self.height(LABELLED) {
+            let w = self.nth(LABELLED, j);
+            if !self.is_reached(w) {
+                let label = self.of_node(w, LABEL);
+                least = Some(least.map_or(label, |other: u32| other.min(label)));
+                self.set_nth(LABELLED, kept, w);
+                kept += 1;
+            }
+        }
+        self.set_height(LABELLED, kept);
+        least
+    }
+
+    // Reaches the nodes of a label until one has an excess, which is answered.
+    pub fn reach_labelled(&mut self, risen: u32) -> Option<u32> {
+        for j in 0..self.height(LABELLED) {
+            let w = self.nth(LABELLED, j);
+            if self.of_node(w, LABEL) == risen {
+                if let Some(t) = self.reach(w) {
+                    return Some(t);
+                }
+            }
+        }
+        None
+    }
 }

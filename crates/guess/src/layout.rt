@@ -2,16 +2,16 @@
 // guess stands where the layout of nodes has it.
 use network::nodes::NODE_STRIDE;
 
-// In a node: its potential; HIDDEN where it is reached, so that no arc to it is on its kink.
+// In a node: its potential; HIDDEN if it is reached, so that no arc to it is on its kink.
 pub const POTENTIAL: u32 = network::nodes::POTENTIAL as u32;
 
 // In a node: how much more flows out of it than in, with DEFICIT_ZERO added.
 pub const DEFICIT: u32 = network::nodes::DEFICIT as u32;
 
-// In a node: the epoch where it is labelled; at the end its place in the order of reaching.
+// In a node: the epoch if it is labelled; at the end its place in the order of reaching.
 pub const MARK: u32 = network::nodes::ORDER as u32;
 
-// In a node: twice the arc over which it is labelled or reached, one more where it is the arc's tail.
+// In a node: twice the arc over which it is labelled or reached, one more if it is the arc's tail.
 pub const PARENT: u32 = network::nodes::PARENT as u32;
 
 // In a node that is labelled: how far the source has risen once it reaches the node.
@@ -20,8 +20,8 @@ pub const LABEL: u32 = 4;
 // In a node that is reached, in place of the label: its potential.
 pub const HIDDEN_POTENTIAL: u32 = LABEL;
 
-// More than any potential.
-pub const HIDDEN: u32 = 4294967295;
+// More than any potential. No Option: as it is, that a node is not reached and an arc on its kink is one comparison, which is faster.
+pub const HIDDEN: u32 = u32::MAX;
 
 // In a node: where its entries begin.
 pub const FIRST: u32 = network::nodes::ENTRIES as u32;
@@ -32,7 +32,7 @@ pub const NEXT_FIRST: u32 = FIRST + NODE_STRIDE as u32;
 // What is added to a deficit: 2^30.
 pub const DEFICIT_ZERO: u32 = network::nodes::DEFICIT_ZERO as u32;
 
-// An entry is this times the other node, and twice the arc, one more where the other node is the arc's tail.
+// An entry is this times the other node, and twice the arc, one more if the other node is the arc's tail.
 pub const ENTRY_NODE: u32 = 16384;
 
 // In the room, after the heights of the stacks: how far the source of this search has risen.

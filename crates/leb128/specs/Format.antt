@@ -1,6 +1,7 @@
 -- Reading and writing any format, given by the bytes that it starts with and its grammar: what is read from bytes, what is
 -- written from a number list, and what that leaves in a lent slice.
-use Rattle.std.specs.Prelude.{ℕ, ◌-◌, Bool, true, false, cond, ◌&&◌, List, [], ◌∷◌, ◌++◌, length, drop, take, ltb, eqb}
+use Rattle.std.specs.Prelude.{ℕ, ◌-◌, Bool, true, false, cond, ◌&&◌, List, [], ◌∷◌, ◌++◌, length, drop, take, ltb, eqb, Ok, Err}
+use Rattle.std.specs.Prelude.{Result as Answer}
 use Rattle.leb128.specs.Refusals.{input_ended, other_magic, something_follows, slice_short}
 use Rattle.leb128.specs.Limits.{number_bytes}
 use Rattle.leb128.specs.Number.{encode}
@@ -8,8 +9,6 @@ use Rattle.leb128.specs.Grammar.{Form, Grammar}
 use Rattle.leb128.specs.Source.{refusal, in_bytes, in_list}
 use Rattle.leb128.specs.Walk.{Walk, walk}
 use Rattle.leb128.specs.declared.Refusal.{Refusal}
-use Rattle.leb128.specs.declared.Answer.{Answer}
-use Rattle.leb128.specs.declared.Answer.TheVariants.{Done, Refused}
 
 -- the elements that are to be written, or the refusal
 pub data Result : Type 0 where
@@ -21,10 +20,10 @@ pub data Outcome : Type 0 where
   wrote : ℕ → Outcome
   refused : Refusal → Outcome
 
--- what each case of the code's answer stands for
-unfoldable pub outcome : Answer → Outcome
-outcome (Done count) = Outcome.wrote count
-outcome (Refused r) = Outcome.refused r
+-- what the code's answer stands for: a count of elements, or a refusal
+unfoldable pub outcome : Answer ℕ Refusal → Outcome
+outcome (Ok count) = Outcome.wrote count
+outcome (Err r) = Outcome.refused r
 
 -- the same bytes
 unfoldable pub same : List ℕ → List ℕ → Bool

@@ -1,7 +1,11 @@
 // Numbers in bytes and in lists: the reader and the writer of one number, and what a format of numbers answers.
 #![tactic(auto)]
 
-pub mod inside;
+ghost use Rattle.std.specs.Prelude.{◌≡◌, Some};
+ghost use Rattle.leb128.specs.Source.{refusal, shown};
+
+use std::fmt;
+
 pub mod limits;
 mod reader;
 pub mod refusals;
@@ -10,31 +14,37 @@ mod writer;
 pub use reader::{list_number, read_number};
 pub use writer::{number_size, write_number};
 
-// A refusal of document 01: its number and its offset.
-#[derive(Clone, Copy)]
+// A refusal of document 01: its number and its offset. The number is a `u8` and not an enum: each crate has constants for the
+// refusals that it gives, and `report::refusal_text` takes every number.
+#[derive(Clone, Copy, PartialEq, Eq)]
 pub struct Refusal {
     pub number: u8,
     pub offset: usize,
 }
 
-// What stands at a position: a value with the next position, or the refusal.
-#[derive(Clone, Copy)]
-pub enum Found {
-    Value(u32, usize),
-    Refused(Refusal),
+impl Refusal {
+    // The refusal of this number at this offset.
+    pub fn new(number: u8, offset: usize) -> Refusal
+        ensures { result ≡ refusal number offset }
+    {
+        Refusal { number, offset }
+    }
 }
 
-// Where a number was written: the next position; or it has no form of so many bytes; or the slice has no room for it.
-#[derive(Clone, Copy)]
-pub enum Placed {
-    Next(usize),
+// A refusal is printed as its number and its offset.
+impl fmt::Display for Refusal {
+    ghost output = { λ r. Some (shown r) };
+
+    fn fmt<W: fmt::Write>(&self, f: &mut fmt::Formatter<W>) -> fmt::Result {
+        let number = self.number;
+        let offset = self.offset;
+        write!(f, "refused {number} at {offset}")
+    }
+}
+
+// Why a number is not written: it has no form of so many bytes, or the slice has no room for it.
+#[derive(Clone, Copy, PartialEq, Eq)]
+pub enum Unplaced {
     NoForm,
     NoRoom,
-}
-
-// How many elements were written, or the refusal.
-#[derive(Clone, Copy)]
-pub enum Answer {
-    Done(usize),
-    Refused(Refusal),
 }

@@ -1,13 +1,13 @@
 -- What the call takes and answers: flows and the leftmost least potentials of the network that the packed arcs are, or that it
 -- has no feasible potentials; and what each answer leaves in the slices that are lent.
-use Rattle.std.specs.Prelude.{ℕ, ◌≤◌, ◌≡◌, List, length, replicate}
+use Rattle.std.specs.Prelude.{Result, Ok, Err, ℕ, ◌≤◌, ◌≡◌, List, length, replicate}
 use Rattle.network.specs.Network.{Network, Feasible, integers}
 use Rattle.network.specs.Net.{at, Net, meant}
 use Rattle.network.specs.Nodes.{size, potentials}
+use Rattle.network.specs.declared.Unsolved.{Unsolved}
+use Rattle.network.specs.declared.Unsolved.TheVariants.{NoSolution, Malformed}
 use Rattle.circulation.specs.Input.{ArcsTaken}
 use Rattle.circulation.specs.Solutions.{Solution, Cleared as NodesCleared}
-use Rattle.leftmost.specs.declared.Answer.{Answer}
-use Rattle.leftmost.specs.declared.Answer.TheVariants.{Solved, NoSolution, Malformed}
 
 -- what is taken: arcs between n nodes that the solver of flows takes, and room for a number of each node
 pub record Taken (N : Net) (n room : ℕ) : Type 0 where
@@ -31,10 +31,10 @@ pub data Finding : Type 0 where
   malformed : Finding
 
 -- what each case of the code's answer stands for
-abbrev pub finding : Answer → Finding
-finding Solved = Finding.solved
-finding NoSolution = Finding.none
-finding Malformed = Finding.malformed
+abbrev pub finding : Result (Unit {0}) Unsolved → Finding
+finding (Ok done) = Finding.solved
+finding (Err NoSolution) = Finding.none
+finding (Err Malformed) = Finding.malformed
 
 -- what each finding says, with flows, nodes and room before and after; which of the flows that make a solution is left open
 abbrev pub Means : (N : Net) (x₀ nodes₀ room₀ x nodes room : List ℕ) → Finding → Type 0

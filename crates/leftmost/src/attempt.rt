@@ -1,4 +1,4 @@
-// A guess, taken where it shows itself to be the solution.
+// A guess, taken if it shows itself to be the solution.
 ghost use Rattle.std.specs.Prelude.{length};
 ghost use Rattle.network.specs.Net.{net};
 ghost use Rattle.network.specs.Nodes.{size};
@@ -9,7 +9,6 @@ ghost use Rattle.leftmost.specs.inside.Optimal.{Left};
 use crate::optimal::optimal;
 use circulation::inside::finish;
 use guess::inside::guess;
-use network::clear;
 
 // Whether a guess from the potentials in nodes is the solution; then it is left, with potentials relative to ground's, and 0 in
 // the other numbers of the nodes and in room. Nothing stands behind the last node.
@@ -23,6 +22,6 @@ pub fn attempt(arcs: &[u32], flows: &mut [u32], nodes: &mut [u32], room: &mut [u
         return false;
     }
     finish(nodes);
-    clear(room);
+    room.fill(0);
     true
 }

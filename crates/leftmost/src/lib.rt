@@ -1,5 +1,6 @@
 // The leftmost least potentials of any network of packed arcs, and flows that show them to be least: the least solution of the
 // hard constraints, then a guess that shows itself to be right, else the circulation from the start.
+// Between `usize` and the stored types a number goes by `as`: there is no `From`, and `try_from` would test what is proved.
 #![tactic(auto)]
 
 mod attempt;
@@ -14,44 +15,36 @@ ghost use Rattle.leftmost.specs.Solutions.{finding, Finding, Means, SomeFeasible
 use crate::attempt::attempt;
 use crate::start::{circulate, set_potentials};
 use circulation::takes;
-use difference::{Answer as Start, least};
-use network::clear;
+use difference::least;
+use network::Unsolved;
 use network::nodes::NODE_STRIDE;
-
-// What solve answers: a solution, that there is none, or input that is not taken.
-#[derive(Clone, Copy)]
-pub enum Answer {
-    Solved,
-    NoSolution,
-    Malformed,
-}
 
 // Flows that balance, and the leftmost potentials of least cost, of as many arcs as there are flows. Each node has NODE_STRIDE
 // numbers, its potential first, and ground is the last node. room is to work in: it has a number or more for each node, and
-// solving is fast where it has 8 + 4 · nodes + 2 · arcs. What these slices hold at first is not looked at.
-// Solved leaves the potentials relative to ground's, with 2^28 added, and 0 in the other numbers of the nodes and in room; which
-// flows it leaves is open. NoSolution is an answer and no refusal: no potentials that are not negative are feasible; room is 0,
+// solving is fast if it has 8 + 4 · nodes + 2 · arcs. What these slices hold at first is not looked at.
+// A solution is left with potentials relative to ground's, with 2^28 added, and 0 in the other numbers of the nodes and in room; which
+// flows it has is open. NoSolution is an answer and no refusal: no potentials that are not negative are feasible; room is 0,
 // flows and nodes are as they were. Malformed leaves all slices as they were.
-pub fn solve(arcs: &[u32], flows: &mut [u32], nodes: &mut [u32], room: &mut [u32]) -> Answer
+pub fn solve(
+    arcs: &[u32],
+    flows: &mut [u32],
+    nodes: &mut [u32],
+    room: &mut [u32],
+) -> Result<(), Unsolved>
     ensures { Means (net arcs.now (length flows.old)) flows.old nodes.old
         room.old flows.new nodes.new room.new (finding result) }
 {
     let count = nodes.len() / NODE_STRIDE;
-    if !takes(arcs, flows.len(), count) {
-        return Answer::Malformed;
+    if count > room.len() || !takes(arcs, flows.len(), count) {
+        return Err(Unsolved::Malformed);
     }
-    match least(arcs, flows.len(), count, room) {
-        Start::Malformed => Answer::Malformed,
-        Start::NoSolution => {
-            clear(room);
-            Answer::NoSolution
-        }
-        Start::Solved => {
-            set_potentials(room, count, nodes);
-            solve_feasible(arcs, flows, nodes, room);
-            Answer::Solved
-        }
+    if least(arcs, flows.len(), count, room).is_err() {
+        room.fill(0);
+        return Err(Unsolved::NoSolution);
     }
+    set_potentials(&room[..count], nodes);
+    solve_feasible(arcs, flows, nodes, room);
+    Ok(())
 }
 
 // Solves a network that has feasible potentials: by a guess from those in the nodes, or by the circulation from the start.
@@ -62,8 +55,7 @@ fn solve_feasible(arcs: &[u32], flows: &mut [u32], nodes: &mut [u32], room: &mut
         room.old flows.new nodes.new room.new Finding.solved }
 {
     let end = NODE_STRIDE * (nodes.len() / NODE_STRIDE);
-    if attempt(arcs, flows, &mut nodes[0..end], room) {
-        return;
+    if !attempt(arcs, flows, &mut nodes[0..end], room) {
+        circulate(arcs, flows, nodes, room);
     }
-    circulate(arcs, flows, nodes, room);
 }

@@ -11,10 +11,11 @@ ghost use Rattle.leftmost.specs.inside.Shown.{Shown};
 ghost use Rattle.leftmost.specs.inside.Optimal.{AllFit, AllSupported, Fits, FitsAt, Level, Passes};
 
 use circulation::inside::{
-    asks_at, at_head, at_tail, count_deficits, count_of, flow_of, get, head_of, high_of, low_of,
-    low_start, stands_at, tail_of,
+    asks_at, at_head, at_tail, count_deficits, count_of, get, low_start, stands_at,
 };
 use circulation::limits::{FLOW_LEAST, FLOW_MOST};
+use network::inside::part_of;
+use network::layout::{HEAD, HIGH, LOW, TAIL};
 use network::nodes::{DEFICIT, DEFICIT_ZERO, ORDER, PARENT};
 
 // The parent of a node is an end of an arc: so many to an arc.
@@ -26,13 +27,10 @@ pub fn optimal(arcs: &[u32], flows: &[u32], nodes: &mut [u32]) -> bool
     ensures { Shown (Passes (net arcs.now (length flows.now)) (size nodes.old)
         flows.now nodes.new) result }
 {
-    if !low_start(nodes, count_of(nodes)) {
-        return false;
-    }
-    if !all_fit(arcs, flows, nodes) {
-        return false;
-    }
-    if !all_supported(arcs, flows, nodes) {
+    if !low_start(nodes, count_of(nodes))
+        || !all_fit(arcs, flows, nodes)
+        || !all_supported(arcs, flows, nodes)
+    {
         return false;
     }
     count_deficits(arcs, flows, nodes);
@@ -46,14 +44,7 @@ fn all_fit(arcs: &[u32], flows: &[u32], nodes: &[u32]) -> bool
     ensures { Shown (AllFit (net arcs.now (length flows.now)) (at (potentials nodes.now))
         (at flows.now)) result }
 {
-    let mut i = 0;
-    while i < flows.len() {
-        if !fits_at(arcs, flows, nodes, i) {
-            return false;
-        }
-        i += 1;
-    }
-    true
+    (0..flows.len()).all(|i| fits_at(arcs, flows, nodes, i))
 }
 
 // Whether the flow on arc i fits the potentials.
@@ -69,9 +60,9 @@ fn fits_at(arcs: &[u32], flows: &[u32], nodes: &[u32], i: usize) -> bool
     fit(
         stands,
         asks,
-        flow_of(flows, i),
-        low_of(arcs, i),
-        high_of(arcs, i),
+        flows[i] as usize,
+        part_of(arcs, i, LOW),
+        part_of(arcs, i, HIGH),
     )
 }
 
@@ -79,25 +70,12 @@ fn fits_at(arcs: &[u32], flows: &[u32], nodes: &[u32], i: usize) -> bool
 fn fit(stands: usize, asks: usize, x: usize, low: usize, high: usize) -> bool
     ensures { Shown (Fits stands asks x low high) result }
 {
-    if x < FLOW_LEAST {
-        return false;
-    }
-    if x > FLOW_MOST {
-        return false;
-    }
-    if x < low {
-        return false;
-    }
-    if x > high {
-        return false;
-    }
-    if stands < asks {
-        return x == low;
-    }
-    if asks < stands {
-        return x == high;
-    }
-    true
+    FLOW_LEAST <= x
+        && x <= FLOW_MOST
+        && low <= x
+        && x <= high
+        && (asks <= stands || x == low)
+        && (stands <= asks || x == high)
 }
 
 // Whether every node but ground is supported.
@@ -108,12 +86,11 @@ fn all_supported(arcs: &[u32], flows: &[u32], nodes: &[u32]) -> bool
         (at (potentials nodes.now)) (at flows.now) (at (orders nodes.now))) result }
 {
     let ground = count_of(nodes) - 1;
-    let mut v = 0;
-    while v < ground {
+    // A for: no proof is found of all over a range, since what shows a node supported holds an arc.
+    for v in 0..ground {
         if !supported(arcs, flows, nodes, v) {
             return false;
         }
-        v += 1;
     }
     true
 }
@@ -127,10 +104,7 @@ fn supported(arcs: &[u32], flows: &[u32], nodes: &[u32], v: usize) -> bool
         (at flows.now) (at (orders nodes.now)) v) result }
 {
     let i = get(nodes, v, PARENT) / ARC_ENDS;
-    if i >= flows.len() {
-        return false;
-    }
-    supports(arcs, flows, nodes, v, i)
+    i < flows.len() && supports(arcs, flows, nodes, v, i)
 }
 
 // Whether arc i supports node v: it is on its kink, its other end is before v, and its flow is not at the limit.
@@ -144,35 +118,14 @@ fn supports(arcs: &[u32], flows: &[u32], nodes: &[u32], v: usize, i: usize) -> b
     if asks_at(arcs, nodes, i, flows.len()) != stands_at(arcs, nodes, i, flows.len()) {
         return false;
     }
-    let x = flow_of(flows, i);
+    let x = flows[i] as usize;
     let place = get(nodes, v, ORDER);
-    if tail_of(arcs, i) == v {
-        return both_less(
-            at_head(arcs, nodes, i, ORDER, flows.len()),
-            place,
-            x,
-            high_of(arcs, i),
-        );
+    if part_of(arcs, i, TAIL) == v {
+        return at_head(arcs, nodes, i, ORDER, flows.len()) < place && x < part_of(arcs, i, HIGH);
     }
-    if head_of(arcs, i) == v {
-        return both_less(
-            at_tail(arcs, nodes, i, ORDER, flows.len()),
-            place,
-            low_of(arcs, i),
-            x,
-        );
-    }
-    false
-}
-
-// Whether a is less than b, and less than more.
-fn both_less(a: usize, b: usize, less: usize, more: usize) -> bool
-    ensures { Shown ((a < b) × (less < more)) result }
-{
-    if a >= b {
-        return false;
-    }
-    less < more
+    part_of(arcs, i, HEAD) == v
+        && at_tail(arcs, nodes, i, ORDER, flows.len()) < place
+        && part_of(arcs, i, LOW) < x
 }
 
 // Whether no node has a deficit or an excess.
@@ -180,13 +133,5 @@ fn level(nodes: &[u32]) -> bool
     requires { size nodes.now ≤ most_nodes }
     ensures { Shown (Level nodes.now) result }
 {
-    let n = count_of(nodes);
-    let mut v = 0;
-    while v < n {
-        if get(nodes, v, DEFICIT) != DEFICIT_ZERO {
-            return false;
-        }
-        v += 1;
-    }
-    true
+    (0..count_of(nodes)).all(|v| get(nodes, v, DEFICIT) == DEFICIT_ZERO)
 }

@@ -7,7 +7,6 @@ ghost use Rattle.leftmost.specs.Solutions.{Finding, Means, SomeFeasible, Taken};
 ghost use Rattle.leftmost.specs.inside.Potentials.{potentials_to};
 
 use difference::least;
-use network::clear;
 use network::nodes::NODE_STRIDE;
 
 // Solves a network that has feasible potentials, whatever the slices hold.
@@ -18,20 +17,19 @@ pub fn circulate(arcs: &[u32], flows: &mut [u32], nodes: &mut [u32], room: &mut 
         room.old flows.new nodes.new room.new Finding.solved }
 {
     let count = nodes.len() / NODE_STRIDE;
-    let start = least(arcs, flows.len(), count, room);
-    set_potentials(room, count, nodes);
-    let answer = circulation::solve(arcs, flows, nodes);
-    clear(room);
+    // Neither fails: there are feasible potentials, and the nodes have such.
+    let _ = least(arcs, flows.len(), count, room);
+    set_potentials(&room[..count], nodes);
+    let _ = circulation::solve(arcs, flows, nodes);
+    room.fill(0);
 }
 
 // The potentials to start from, in the nodes.
-pub fn set_potentials(values: &[u32], count: usize, nodes: &mut [u32])
-    requires { (node_stride * count ≤ length nodes.old) × (count ≤ length values.now) × (count ≤ most_nodes) }
-    ensures { nodes.new ≡ potentials_to count values.now nodes.old }
+pub fn set_potentials(values: &[u32], nodes: &mut [u32])
+    requires { (node_stride * length values.now ≤ length nodes.old) × (length values.now ≤ most_nodes) }
+    ensures { nodes.new ≡ potentials_to (length values.now) values.now nodes.old }
 {
-    let mut v = 0;
-    while v < count {
-        nodes[NODE_STRIDE * v] = values[v];
-        v += 1;
+    for (v, value) in values.iter().enumerate() {
+        nodes[NODE_STRIDE * v] = *value;
     }
 }

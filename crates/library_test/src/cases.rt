@@ -1,9 +1,9 @@
 // The cases: the form of a line, and the operations.
 use crate::draw::draw_case;
-use crate::formats::Format;
 use crate::narrowest::narrowest_case;
 use crate::widths::widths_case;
-use crate::{formats, hex, show, smaller};
+use crate::{hex, show};
+use leb128::Refusal;
 use sheet::limits::{MAX_BYTES, MAX_NUMBERS};
 
 // The column where the payload starts.
@@ -37,117 +37,104 @@ fn fits_column(column: usize, byte: u8) -> bool {
 
 // Whether each byte of a line behind the first fits its column.
 fn fits_columns(line: &[u8]) -> bool {
-    let mut i: usize = 1;
-    while i < line.len() {
-        if !fits_column(i, line[i]) {
-            return false;
-        }
-        i += 1;
-    }
-    true
+    line.iter()
+        .enumerate()
+        .skip(1)
+        .all(|(column, byte)| fits_column(column, *byte))
 }
 
-// Reads bytes of a format into a slice of so much room, and prints the answer and the slice.
-fn read_into(format: Format, bytes: &[u8], numbers: &mut [u16], room: usize) {
-    let n = smaller(room, numbers.len());
-    let lent = &mut numbers[0..n];
-    show::answer(formats::read(format, bytes, lent));
-    show::numbers(lent);
-}
-
-// `R`, `F`: the payload is the bytes of a sheet or of a coordinate file to read. Answers whether it is whole bytes.
-fn read_case(format: Format, room: usize, payload: &[u8]) -> bool {
+// Hands the bytes that a payload writes to an operation. Answers whether it is whole bytes.
+pub fn with_bytes<F: FnOnce(&[u8])>(payload: &[u8], operation: F) -> bool
+    requires { (bytes : _) → F.pre operation bytes }
+{
     if payload.len() % 2 != 0 {
         return false;
     }
     let mut bytes = [0u8; PAYLOAD_BYTES];
-    let n = hex::bytes(payload, &mut bytes);
-    let mut numbers = [0xa5a5u16; NUMBER_ROOM];
-    read_into(format, &bytes[0..n], &mut numbers, room);
+    let n = hex::list(payload, &mut bytes);
+    operation(&bytes[..n]);
     true
 }
 
-// Writes numbers in a format into a slice of so much room, and prints the answer and the slice.
-fn write_into(format: Format, numbers: &[u16], bytes: &mut [u8], room: usize) {
-    let n = smaller(room, bytes.len());
-    let lent = &mut bytes[0..n];
-    show::answer(formats::write(format, numbers, lent));
-    show::bytes(lent);
+// `R`, `F`: the payload is the bytes of a sheet or of a coordinate file to read into so much room. Prints the answer and the numbers.
+fn read_case<F: FnOnce(&[u8], &mut [u16]) -> Result<usize, Refusal>>(
+    read: F,
+    room: usize,
+    payload: &[u8],
+) -> bool
+    requires { (bytes : _) (numbers : _) → F.pre read bytes numbers }
+{
+    with_bytes(payload, |bytes| {
+        let mut numbers = [0xa5a5u16; NUMBER_ROOM];
+        let lent = &mut numbers[..room.min(NUMBER_ROOM)];
+        show::answer(read(bytes, lent));
+        show::list(lent);
+    })
 }
 
-// `W`, `S`: the payload is the numbers of a sheet or of a coordinate file to write. Answers whether it is whole numbers.
-fn write_case(format: Format, room: usize, payload: &[u8]) -> bool {
+// `W`, `S`: the payload is the numbers of a sheet or of a coordinate file to write into so much room. Prints the answer and the bytes.
+// Answers whether it is whole numbers.
+fn write_case<F: FnOnce(&[u16], &mut [u8]) -> Result<usize, Refusal>>(
+    write: F,
+    room: usize,
+    payload: &[u8],
+) -> bool
+    requires { (numbers : _) (bytes : _) → F.pre write numbers bytes }
+{
     if payload.len() % 4 != 0 {
         return false;
     }
     let mut numbers = [0u16; PAYLOAD_NUMBERS];
-    let n = hex::numbers(payload, &mut numbers);
+    let n = hex::list(payload, &mut numbers);
     let mut bytes = [0xa5u8; BYTE_ROOM];
-    write_into(format, &numbers[0..n], &mut bytes, room);
+    let lent = &mut bytes[..room.min(BYTE_ROOM)];
+    show::answer(write(&numbers[..n], lent));
+    show::list(lent);
     true
 }
 
 // `G`: the payload is bytes with a number to read at a position. Answers whether it is whole bytes.
 fn get_case(at: usize, payload: &[u8]) -> bool {
-    if payload.len() % 2 != 0 {
-        return false;
-    }
-    let mut bytes = [0u8; PAYLOAD_BYTES];
-    let n = hex::bytes(payload, &mut bytes);
-    show::found(leb128::read_number(&bytes[0..n], at));
-    true
+    with_bytes(payload, |bytes| show::found(leb128::read_number(bytes, at)))
 }
 
-// Writes a number at a position of a slice of so much room, and prints the answer and the slice.
-fn put_number(bytes: &mut [u8], room: usize, at: usize, number: u32) {
-    let n = smaller(room, bytes.len());
-    let lent = &mut bytes[0..n];
-    show::placed(leb128::write_number(lent, at, number));
-    show::bytes(lent);
-}
-
-// `P`: the payload is the number to write at a position. Answers whether it is one number.
+// `P`: the payload is the number to write at a position of so much room. Prints the answer and the bytes. Answers whether it is one
+// number.
 fn put_case(room: usize, at: usize, payload: &[u8]) -> bool {
     if payload.len() != 8 {
         return false;
     }
     let mut bytes = [0xa5u8; BYTE_ROOM];
-    put_number(&mut bytes, room, at, hex::long(payload, 0));
+    let lent = &mut bytes[..room.min(BYTE_ROOM)];
+    show::placed(leb128::write_number(lent, at, hex::number(payload)));
+    show::list(lent);
     true
-}
-
-// Checks places and a list, and prints the answer.
-fn check_list(text: &[u8], places: &[u16], list: &[i32]) {
-    let mut bytes = [0u8; PAYLOAD_BYTES];
-    let n = hex::bytes(text, &mut bytes);
-    show::verdict(checker::check(&bytes[0..n], places, list));
 }
 
 // `C`: the payload is so many places, so many numbers of a list, and the bytes of their sheet. Answers whether it is that.
 fn check_case(count: usize, length: usize, payload: &[u8]) -> bool {
-    let list_at = 4 * smaller(count, PLACES);
-    let sheet_at = list_at + 8 * smaller(length, LIST);
+    let list_at = 4 * count.min(PLACES);
+    let sheet_at = list_at + 8 * length.min(LIST);
     if payload.len() < sheet_at {
         return false;
     }
-    if (payload.len() - sheet_at) % 2 != 0 {
-        return false;
-    }
     let mut places = [0u16; PLACES];
-    let n = hex::numbers(&payload[0..list_at], &mut places);
+    let n = hex::list(&payload[..list_at], &mut places);
     let mut list = [0i32; LIST];
-    let m = hex::signed_numbers(&payload[list_at..sheet_at], &mut list);
-    check_list(&payload[sheet_at..], &places[0..n], &list[0..m]);
-    true
+    let m = hex::list(&payload[list_at..sheet_at], &mut list);
+    with_bytes(
+        &payload[sheet_at..],
+        |bytes| show::verdict(checker::check(bytes, &places[..n], &list[..m])),
+    )
 }
 
 // Runs a case by its letter. Answers whether there is such an operation, with a payload of its form.
 fn operation(letter: u8, room: usize, at: usize, payload: &[u8]) -> bool {
     match letter {
-        b'R' => read_case(Format::Sheet, room, payload),
-        b'W' => write_case(Format::Sheet, room, payload),
-        b'F' => read_case(Format::Coordinates, room, payload),
-        b'S' => write_case(Format::Coordinates, room, payload),
+        b'R' => read_case(sheet::read, room, payload),
+        b'W' => write_case(sheet::write, room, payload),
+        b'F' => read_case(sheet::read_coordinates, room, payload),
+        b'S' => write_case(sheet::write_coordinates, room, payload),
         b'G' => get_case(at, payload),
         b'P' => put_case(room, at, payload),
         b'C' => check_case(room, at, payload),
@@ -167,7 +154,7 @@ pub fn case(line: &[u8]) -> bool {
     if !fits_columns(line) {
         return false;
     }
-    let room = hex::word(line, 2) as usize;
-    let at = hex::word(line, 7) as usize;
+    let room = hex::number(&line[2..6]) as usize;
+    let at = hex::number(&line[7..11]) as usize;
     operation(line[0], room, at, &line[PAYLOAD..])
 }

@@ -1,16 +1,14 @@
 // Test of the library: answers each case of the standard input with what the library answers.
+// Between `usize` and the stored types a number goes by `as`: there is no `From`, and `try_from` would test what is proved.
 #![tactic(auto)]
 
 mod cases;
 mod draw;
-mod formats;
 mod hex;
 mod input;
 mod narrowest;
 mod show;
 mod widths;
-
-ghost use Rattle.std.specs.Prelude.{◌≤◌};
 
 use cases::case;
 use input::read_line;
@@ -18,19 +16,9 @@ use input::read_line;
 // The bytes that a line may have, its line end among them.
 const LINE_BYTES: usize = 32768;
 
-// The smaller of two numbers.
-fn smaller(a: usize, b: usize) -> usize
-    ensures { (result ≤ a) × (result ≤ b) }
-{
-    if a < b { a } else { b }
-}
-
 // Whether a line names the cases below it and is none itself.
 fn is_comment(line: &[u8]) -> bool {
-    if line.len() == 0 {
-        return false;
-    }
-    line[0] == b'#'
+    line.first() == Some(&b'#')
 }
 
 // Answers a line: a comment is copied, any other line is a case.
@@ -55,10 +43,11 @@ fn answer_next() -> bool {
     true
 }
 
-// Answers each line of the input. A proved loop has to end, so it counts down from more lines than any input has.
+// Answers each line of the input. A proved loop has to end, so it counts to more lines than any input has.
 fn main() {
-    let mut turns = u64::MAX;
-    while turns > 0 && answer_next() {
-        turns -= 1;
+    for _ in 0..u64::MAX {
+        if !answer_next() {
+            return;
+        }
     }
 }

@@ -1,7 +1,6 @@
 // Answers and slices as text on the standard output.
-use checker::Verdict;
-use engine::{Answer as Drawing, Minimum};
-use leb128::{Answer, Found, Placed, Refusal};
+use engine::Narrowest;
+use leb128::{Refusal, Unplaced};
 
 // The standard output.
 const STANDARD_OUTPUT: i32 = 1;
@@ -25,141 +24,118 @@ fn refusal(r: Refusal) {
 }
 
 // Prints the answer of a reader or a writer.
-pub fn answer(answer: Answer) {
+pub fn answer(answer: Result<usize, Refusal>) {
     match answer {
-        Answer::Done(count) => {
+        Ok(count) => {
             text(b"done ");
             decimal(count);
         }
-        Answer::Refused(r) => refusal(r),
+        Err(r) => refusal(r),
     }
     text(b":");
 }
 
 // Prints the answer of the number reader.
-pub fn found(found: Found) {
+pub fn found(found: Result<(u32, usize), Refusal>) {
     match found {
-        Found::Value(n, next) => {
+        Ok((n, next)) => {
             text(b"value ");
             decimal(n as usize);
             text(b" next ");
             decimal(next);
         }
-        Found::Refused(r) => refusal(r),
+        Err(r) => refusal(r),
     }
 }
 
 // Prints the answer of the number writer.
-pub fn placed(placed: Placed) {
+pub fn placed(placed: Result<usize, Unplaced>) {
     match placed {
-        Placed::Next(next) => {
+        Ok(next) => {
             text(b"next ");
             decimal(next);
         }
-        Placed::NoForm => text(b"no form"),
-        Placed::NoRoom => text(b"no room"),
+        Err(Unplaced::NoForm) => text(b"no form"),
+        Err(Unplaced::NoRoom) => text(b"no room"),
     }
     text(b":");
 }
 
 // Prints the answer of the checker.
-pub fn verdict(verdict: Verdict) {
+pub fn verdict(verdict: Result<bool, Refusal>) {
     match verdict {
-        Verdict::Yes => text(b"yes"),
-        Verdict::No => text(b"no"),
-        Verdict::Refused(r) => refusal(r),
+        Ok(true) => text(b"yes"),
+        Ok(false) => text(b"no"),
+        Err(r) => refusal(r),
     }
 }
 
 // Prints the answer of the engine.
-pub fn drawing(drawing: Drawing) {
+pub fn drawing(drawing: Result<u32, Refusal>) {
     match drawing {
-        Drawing::Drawn(total) => {
+        Ok(total) => {
             text(b"total ");
             decimal(total as usize);
         }
-        Drawing::Refused(r) => refusal(r),
+        Err(r) => refusal(r),
     }
     text(b":");
 }
 
 // Prints the minimum width, and the total at it.
-pub fn minimum(minimum: Minimum) {
+pub fn minimum(minimum: Result<Narrowest, Refusal>) {
     match minimum {
-        Minimum::Found(n) => {
+        Ok(n) => {
             text(b"narrowest ");
             decimal(n.width as usize);
             text(b" ");
             decimal(n.total as usize);
         }
-        Minimum::Refused(r) => refusal(r),
+        Err(r) => refusal(r),
     }
 }
 
-// Prints a byte behind a space.
-fn byte(n: u8) {
-    text(b" ");
-    io::print_hex(STANDARD_OUTPUT, n as u64, 2);
+// A number that a list of them is printed with.
+pub trait Show {
+    // Prints the number.
+    fn show(self);
 }
 
-// Prints the bytes of a slice.
-pub fn bytes(bytes: &[u8]) {
-    let mut i: usize = 0;
-    while i < bytes.len() {
-        byte(bytes[i]);
-        i += 1;
+// Two hex digits.
+impl Show for u8 {
+    fn show(self) {
+        io::print_hex(STANDARD_OUTPUT, u64::from(self), 2);
     }
 }
 
-// Prints a number of 16 bits behind a space.
-fn number(n: u16) {
-    text(b" ");
-    io::print_hex(STANDARD_OUTPUT, n as u64, 4);
-}
-
-// Prints the numbers of a slice.
-pub fn numbers(numbers: &[u16]) {
-    let mut i: usize = 0;
-    while i < numbers.len() {
-        number(numbers[i]);
-        i += 1;
+// Four hex digits.
+impl Show for u16 {
+    fn show(self) {
+        io::print_hex(STANDARD_OUTPUT, u64::from(self), 4);
     }
 }
 
-// Prints a number of 32 bits behind a space.
-fn long_number(n: u32) {
-    text(b" ");
-    io::print_hex(STANDARD_OUTPUT, n as u64, 8);
-}
-
-// Prints the long numbers of a slice.
-pub fn long_numbers(numbers: &[u32]) {
-    let mut i: usize = 0;
-    while i < numbers.len() {
-        long_number(numbers[i]);
-        i += 1;
+// Eight hex digits.
+impl Show for u32 {
+    fn show(self) {
+        io::print_hex(STANDARD_OUTPUT, u64::from(self), 8);
     }
 }
 
-// The magnitude of a signed number.
-fn magnitude(n: i32) -> u64 {
-    if n < 0 { (-1 - n) as u64 + 1 } else { n as u64 }
-}
-
-// Prints a signed number behind a space, in decimal digits.
-fn signed_number(n: i32) {
-    text(b" ");
-    if n < 0 {
-        text(b"-");
+// Decimal digits, behind the sign of a number below 0.
+impl Show for i32 {
+    fn show(self) {
+        if self < 0 {
+            text(b"-");
+        }
+        io::print_decimal(STANDARD_OUTPUT, u64::from(self.unsigned_abs()));
     }
-    io::print_decimal(STANDARD_OUTPUT, magnitude(n));
 }
 
-// Prints the numbers of a list.
-pub fn signed_numbers(list: &[i32]) {
-    let mut i: usize = 0;
-    while i < list.len() {
-        signed_number(list[i]);
-        i += 1;
+// Prints the numbers of a list, each behind a space.
+pub fn list<T: Show + Copy>(list: &[T]) {
+    for x in list {
+        text(b" ");
+        (*x).show();
     }
 }

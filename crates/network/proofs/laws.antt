@@ -1,4 +1,3 @@
-pub mod Zeros
 pub mod Certified
 pub mod Duality
 pub mod Held

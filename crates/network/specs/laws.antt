@@ -15,4 +15,5 @@ pub mod Hanging
 pub mod PackedLegal
 pub mod SumsTo
 pub mod TestedAnswers
+pub mod TestedRange
 pub mod Zeros

@@ -24,7 +24,7 @@ pub const KINK_ZERO: usize = 65536;
 // What is added to a limit and to a flow: 2^28.
 pub const FLOW_ZERO: u32 = 268435456;
 
-// An unlimited low: below every limit that has a number.
+// An unlimited low: below every limit that has a number. A number, and no Option: a packed arc is five numbers (`packs`).
 pub const LOW_NONE: u32 = 0;
 
 // An unlimited high: above every limit that has a number, 2^29.

@@ -15,7 +15,7 @@ pub const POTENTIAL: usize = 0;
 // In a node: how much more flows out of it than in, with DEFICIT_ZERO added.
 pub const DEFICIT: usize = 1;
 
-// In a node: its place in the order of reaching; 0 where it is not reached.
+// In a node: its place in the order of reaching; 0 if it is not reached.
 pub const ORDER: usize = 2;
 
 // In a node: the arc over which it was reached.

@@ -1,35 +1,25 @@
 // The text of a sheet's answer.
-ghost use Rattle.std.specs.Prelude.{◌≡◌, ◌≤◌, length};
-ghost use Rattle.leb128.specs.Format.{outcome};
+ghost use Rattle.std.specs.Prelude.{◌≤◌, length};
 ghost use Rattle.sheet.specs.Reading.{read_sheet};
 ghost use Rattle.engine.specs.Draws.{drawn_of};
 ghost use Rattle.report.specs.Limits.{max_text};
 ghost use Rattle.place.specs.Prints.{answer_text, Shows, PrintsFrom, Prints};
-ghost use Rattle.place.specs.inside.Telling.{Answered, «count_of»};
+ghost use Rattle.place.specs.inside.Telling.{Answered};
 
 use arcs::limits::MAX_ARCS;
+use leb128::Refusal;
 use report::{drawing_text, refusal_text};
 use sheet::limits::MAX_NODES;
 
-// How many elements were written.
-fn written(answer: leb128::Answer) -> usize
-    ensures { result ≡ count_of (outcome answer) }
-{
-    match answer {
-        leb128::Answer::Done(count) => count,
-        leb128::Answer::Refused(_) => 0,
-    }
-}
-
 // Writes the text of an answer of drawing into the front of the slice.
-fn tell(bytes: &[u8], places: &[u16], drawn: engine::Answer, text: &mut [u8]) -> usize
+fn tell(bytes: &[u8], places: &[u16], drawn: Result<u32, Refusal>, text: &mut [u8]) -> usize
     requires answered { Answered (read_sheet bytes.now) places.now (drawn_of drawn) }
     requires max_text_in_bounds { max_text ≤ length text.old }
     ensures { Shows (answer_text (read_sheet bytes.now) places.now (drawn_of drawn)) text.new result }
 {
     match drawn {
-        engine::Answer::Drawn(total) => written(drawing_text(bytes, places, total, text)),
-        engine::Answer::Refused(refusal) => written(refusal_text(refusal, text)),
+        Ok(total) => drawing_text(bytes, places, total, text).unwrap_or(0),
+        Err(refusal) => refusal_text(refusal, text).unwrap_or(0),
     }
 }
 

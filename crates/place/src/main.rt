@@ -41,6 +41,7 @@ fn print(rt: &HostRuntime, bytes: &[u8]) {
 
 // Reads the input to its end or until the slice is full, in whatever pieces it comes, and prints the answer.
 fn run(rt: &HostRuntime, input: &mut [u8]) {
+    // A while: the input comes in pieces of any size.
     let mut done: usize = 0;
     while done < input.len() {
         match rt.stdin().read(&mut input[done..]) {

@@ -1,4 +1,3 @@
 pub mod Fields
 pub mod Nodes
-pub mod Delivering
 pub mod Texts

@@ -23,13 +23,13 @@ const REFUSED: [u8; 8] = *b"refused ";
 const AT: [u8; 3] = *b"at ";
 
 // Stores the line of a node: its layer, its position there and its place.
-fn put_node(text: &mut [u8], start: usize, layer: usize, position: usize, place: u16) -> usize
-    requires { Room text.old start (node_line layer position place) }
-    ensures { Puts text.old start (node_line layer position place) text.new result }
+fn put_node(text: &mut [u8], start: usize, node: Location, place: u16) -> usize
+    requires { Room text.old start (node_line node.layer node.position place) }
+    ensures { Puts text.old start (node_line node.layer node.position place) text.new result }
 {
-    let behind_layer = put_field(text, start, layer as u64, SPACE);
-    let behind_position = put_field(text, behind_layer, position as u64, SPACE);
-    put_field(text, behind_position, place as u64, NEWLINE)
+    let behind_layer = put_field(text, start, node.layer as u64, SPACE);
+    let behind_position = put_field(text, behind_layer, node.position as u64, SPACE);
+    put_field(text, behind_position, u64::from(place), NEWLINE)
 }
 
 // Stores the lines of all nodes, each of which has a place.
@@ -41,14 +41,11 @@ fn put_nodes(numbers: &[u16], places: &[u16], text: &mut [u8], start: usize) -> 
         text.new result }
 {
     let mut at = start;
-    let mut v: usize = 0;
-    while v < places.len() {
-        let location = locate(numbers, v);
-        let Location::Node(layer, position) = location else {
+    for (v, place) in places.iter().enumerate() {
+        let Some(node) = locate(numbers, v) else {
             return at;
         };
-        at = put_node(text, at, layer, position, places[v]);
-        v += 1;
+        at = put_node(text, at, node, *place);
     }
     at
 }
@@ -59,7 +56,7 @@ fn put_total(text: &mut [u8], total: u32) -> usize
     ensures { Puts text.old 0 (total_line total) text.new result }
 {
     let at = put(text, 0, &TOTAL);
-    put_field(text, at, total as u64, NEWLINE)
+    put_field(text, at, u64::from(total), NEWLINE)
 }
 
 // Stores the text of a drawing.
@@ -80,7 +77,7 @@ pub fn put_refusal(refusal: Refusal, text: &mut [u8]) -> usize
     ensures { Puts text.old 0 (refusal_line refusal) text.new result }
 {
     let behind_refused = put(text, 0, &REFUSED);
-    let behind_number = put_field(text, behind_refused, refusal.number as u64, SPACE);
+    let behind_number = put_field(text, behind_refused, u64::from(refusal.number), SPACE);
     let behind_at = put(text, behind_number, &AT);
     put_field(text, behind_at, refusal.offset as u64, NEWLINE)
 }

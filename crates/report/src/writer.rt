@@ -9,13 +9,8 @@ pub fn put(text: &mut [u8], at: usize, part: &[u8]) -> usize
     requires { Room text.old at part.now }
     ensures { Puts text.old at part.now text.new result }
 {
-    let mut next = at;
-    let mut i: usize = 0;
-    while i < part.len() {
-        text[next] = part[i];
-        next += 1;
-        i += 1;
-    }
+    let next = at + part.len();
+    text[at..next].copy_from_slice(part);
     next
 }
 
@@ -26,7 +21,7 @@ pub fn put_field(text: &mut [u8], at: usize, n: u64, stop: u8) -> usize
 {
     let mut digits = [0u8; MAX_DIGITS];
     let count = io::decimal(n, &mut digits);
-    let next = put(text, at, &digits[0..count]);
+    let next = put(text, at, &digits[..count]);
     text[next] = stop;
     next + 1
 }

@@ -9,8 +9,8 @@ pub mod Settling
 pub mod SecondPass
 pub mod FillingNumbers
 pub mod Putting
-pub mod PlainNumbers
-pub mod Awaited
+pub mod Passes
+pub mod AwaitedGrammar
 pub mod Coordinates
 pub mod CoordinatePasses
 pub mod Examples

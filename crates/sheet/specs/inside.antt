@@ -1,3 +1,4 @@
 pub mod Cursor
 pub mod Formats
 pub mod Awaited
+pub mod Order

@@ -4,3 +4,5 @@ pub mod Refusals
 pub mod Sheets
 pub mod Nodes
 pub mod ReadInto
+pub mod Awaited
+pub mod Plain

@@ -1,5 +1,6 @@
 // Reader and writer of sheets and of coordinate files: one pass walks the grammar and writes nothing, a second one fills the
 // lent slice.
+// Between `usize` and the stored types a number goes by `as`: there is no `From`, and `try_from` would test what is proved.
 #![tactic(auto)]
 
 mod coordinates;
@@ -8,7 +9,7 @@ pub mod layout;
 pub mod limits;
 mod nodes;
 mod order;
-mod plain;
+mod passes;
 pub mod refusals;
 mod source;
 mod start;
@@ -16,18 +17,18 @@ mod walk;
 mod writer;
 
 ghost use Rattle.std.specs.Prelude.{◌≡◌, length};
-ghost use Rattle.leb128.specs.Source.{refusal};
 ghost use Rattle.leb128.specs.Format.{outcome, answered, filled};
 ghost use Rattle.sheet.specs.Reading.{read_sheet, write_sheet, read_coordinates, write_coordinates};
 ghost use Rattle.sheet.specs.inside.Formats.{read_format, write_format};
 ghost use Rattle.sheet.specs.inside.Cursor.{walked, ended, settled};
 
+use leb128::Refusal;
 use leb128::refusals::{SLICE_SHORT, SOMETHING_FOLLOWS};
-use leb128::{Answer, Refusal};
 pub use nodes::locate;
 
 // Reads a sheet's bytes into the front of the lent slice.
-pub fn read(bytes: &[u8], numbers: &mut [u16]) -> Answer
+#[tactic(auto, unfolding(crate::specs::Reading::read_sheet))]
+pub fn read(bytes: &[u8], numbers: &mut [u16]) -> Result<usize, Refusal>
     ensures answer { outcome result ≡ answered (length numbers.old) (read_sheet bytes.now) }
     ensures slice { numbers.new ≡ filled (read_sheet bytes.now) numbers.old }
 {
@@ -35,7 +36,8 @@ pub fn read(bytes: &[u8], numbers: &mut [u16]) -> Answer
 }
 
 // Writes the sheet of a number list into the front of the lent slice.
-pub fn write(numbers: &[u16], bytes: &mut [u8]) -> Answer
+#[tactic(auto, unfolding(crate::specs::Reading::write_sheet))]
+pub fn write(numbers: &[u16], bytes: &mut [u8]) -> Result<usize, Refusal>
     ensures answer { outcome result ≡ answered (length bytes.old) (write_sheet numbers.now) }
     ensures slice { bytes.new ≡ filled (write_sheet numbers.now) bytes.old }
 {
@@ -43,7 +45,8 @@ pub fn write(numbers: &[u16], bytes: &mut [u8]) -> Answer
 }
 
 // Reads a coordinate file's bytes into the front of the lent slice.
-pub fn read_coordinates(bytes: &[u8], numbers: &mut [u16]) -> Answer
+#[tactic(auto, unfolding(crate::specs::Reading::read_coordinates))]
+pub fn read_coordinates(bytes: &[u8], numbers: &mut [u16]) -> Result<usize, Refusal>
     ensures answer { outcome result ≡ answered (length numbers.old) (read_coordinates bytes.now) }
     ensures slice { numbers.new ≡ filled (read_coordinates bytes.now) numbers.old }
 {
@@ -51,18 +54,19 @@ pub fn read_coordinates(bytes: &[u8], numbers: &mut [u16]) -> Answer
 }
 
 // Writes the coordinate file of a number list into the front of the lent slice.
-pub fn write_coordinates(numbers: &[u16], bytes: &mut [u8]) -> Answer
+#[tactic(auto, unfolding(crate::specs::Reading::write_coordinates))]
+pub fn write_coordinates(numbers: &[u16], bytes: &mut [u8]) -> Result<usize, Refusal>
     ensures answer { outcome result ≡ answered (length bytes.old) (write_coordinates numbers.now) }
     ensures slice { bytes.new ≡ filled (write_coordinates numbers.now) bytes.old }
 {
     write_format(Format::Coordinates, numbers, bytes)
 }
 
-// Where a node stands: its layer and its position there, from 1; or there is no such node.
-#[derive(Clone, Copy)]
-pub enum Location {
-    Node(usize, usize),
-    Nowhere,
+// Where a node stands: its layer and its position there, from 1.
+#[derive(Clone, Copy, PartialEq, Eq)]
+pub struct Location {
+    pub layer: usize,
+    pub position: usize,
 }
 
 // What is read or written.
@@ -72,11 +76,16 @@ enum Format {
     Coordinates,
 }
 
-// Where the next number stands: in the bytes (encoded) or in the number list, at a position; the numbers before it take
-// count elements of the other one.
+// What a walk goes along: the bytes of a format, or a number list.
+#[derive(Clone, Copy)]
+enum Input<'a> {
+    Bytes(&'a [u8]),
+    Numbers(&'a [u16]),
+}
+
+// Where the next number stands in an input: at a position; the numbers before it take count elements where they are written.
 #[derive(Clone, Copy)]
 struct Cursor {
-    encoded: bool,
     at: usize,
     count: usize,
 }
@@ -89,78 +98,70 @@ struct Range {
     high: u32,
 }
 
-// How far a coordinate file is read: whether its layers are counted, and if they are, how many are to come, how many nodes of
-// this layer are to come, how many nodes may yet be counted; the next node stands at low or right of it, and its bytes hold
-// what it lies above the base.
+// What comes next in a sheet: a number that its bytes hold as itself.
 #[derive(Clone, Copy)]
-struct Awaited {
-    begun: bool,
-    layers: u32,
-    nodes: u32,
-    room: u32,
-    base: u32,
-    low: u32,
+struct Plain;
+
+// What comes next in a coordinate file. So many layers are to come, and so many nodes may yet be counted (room).
+#[derive(Clone, Copy)]
+enum Awaited {
+    // The count of layers.
+    Layers,
+    // A layer's count of nodes; the end, if no layer is to come.
+    Layer {
+        layers: u32,
+        room: u32,
+    },
+    // The coordinate of one of the nodes of this layer that are to come: it stands at low or right of it, and its bytes hold what it
+    // lies above the base.
+    Node {
+        layers: u32,
+        room: u32,
+        nodes: u32,
+        base: u32,
+        low: u32,
+    },
 }
 
 // What stands at a cursor: a value with the next cursor, or the refusal.
-#[derive(Clone, Copy)]
-enum Step {
-    Value(u32, Cursor),
-    Refused(Refusal),
-}
+type Step = Result<(u32, Cursor), Refusal>;
 
 // Reads the bytes of a format into the front of the lent slice.
-fn read_format(format: Format, bytes: &[u8], numbers: &mut [u16]) -> Answer
+fn read_format(format: Format, bytes: &[u8], numbers: &mut [u16]) -> Result<usize, Refusal>
     ensures answer { outcome result ≡ answered (length numbers.old) (read_format format bytes.now) }
     ensures slice { numbers.new ≡ filled (read_format format bytes.now) numbers.old }
 {
-    let answer = settle(start::walk_bytes(format, bytes), bytes.len(), numbers.len());
-    let Answer::Done(count) = answer else {
-        return answer;
-    };
-    formats::fill(format, bytes, numbers, count);
-    answer
+    let count = settle(start::walk_bytes(format, bytes), bytes.len(), numbers.len())?;
+    formats::fill(format, bytes, &mut numbers[..count]);
+    Ok(count)
 }
 
 // Writes a number list in a format into the front of the lent slice.
-fn write_format(format: Format, numbers: &[u16], bytes: &mut [u8]) -> Answer
+fn write_format(format: Format, numbers: &[u16], bytes: &mut [u8]) -> Result<usize, Refusal>
     ensures answer { outcome result ≡ answered (length bytes.old) (write_format format numbers.now) }
     ensures slice { bytes.new ≡ filled (write_format format numbers.now) bytes.old }
 {
-    let answer = settle(
+    let count = settle(
         start::walk_list(format, numbers),
         numbers.len(),
         bytes.len(),
-    );
-    let Answer::Done(_) = answer else {
-        return answer;
-    };
+    )?;
     writer::put_magic(bytes, formats::magic(format));
     formats::put_numbers(format, numbers, bytes);
-    answer
+    Ok(count)
 }
 
-// The refusal of this number at this offset.
-fn refused(number: u8, offset: usize) -> Answer
-    ensures { result ≡ Answer.Refused (refusal number offset) }
-{
-    Answer::Refused(Refusal { number, offset })
-}
-
-// What a walk's last step comes to: something may follow it before the end, and the lent slice has only so much room.
-fn settle(last: Step, end: usize, room: usize) -> Answer
+// What the end of a walk comes to: something may follow it before the end, and the lent slice has only so much room.
+#[tactic(auto, unfolding(leb128::specs::Format::outcome, crate::specs::inside::Cursor::ended, crate::specs::inside::Cursor::settled))]
+fn settle(last: Result<Cursor, Refusal>, end: usize, room: usize) -> Result<usize, Refusal>
     ensures { outcome result ≡ settled room (ended end (walked last)) }
 {
-    match last {
-        Step::Refused(r) => Answer::Refused(r),
-        Step::Value(_, c) => {
-            if c.at < end {
-                return refused(SOMETHING_FOLLOWS, c.at);
-            }
-            if room < c.count {
-                return refused(SLICE_SHORT, 0);
-            }
-            Answer::Done(c.count)
-        }
+    let c = last?;
+    if c.at < end {
+        return Err(Refusal::new(SOMETHING_FOLLOWS, c.at));
     }
+    if room < c.count {
+        return Err(Refusal::new(SLICE_SHORT, 0));
+    }
+    Ok(c.count)
 }

@@ -11,10 +11,7 @@ use crate::layout::{FIRST_LAYER, LAYERS, SEPARATION_STRIDE, SEPARATIONS};
 fn number(numbers: &[u16], at: usize) -> usize
     ensures { (result ≡ get_or numbers.now at 0) × (result < list_limit) }
 {
-    if at < numbers.len() {
-        return leb128::inside::number(numbers, at);
-    }
-    0
+    numbers.get(at).map_or(0, |n| usize::from(*n))
 }
 
 // How many numbers a layer of so many nodes has.
@@ -22,29 +19,25 @@ fn layer_size(nodes: usize) -> usize
     requires { nodes < list_limit }
     ensures { result ≡ layer_size nodes }
 {
-    if nodes == 0 {
-        return SEPARATIONS;
-    }
-    SEPARATIONS + SEPARATION_STRIDE * (nodes - 1)
+    SEPARATIONS + SEPARATION_STRIDE * nodes.saturating_sub(1)
 }
 
-// The layer of node v and its position there.
-pub fn locate(numbers: &[u16], v: usize) -> Location
+// The layer of node v and its position there; none if there is no such node.
+pub fn locate(numbers: &[u16], v: usize) -> Option<Location>
     ensures { standing result ≡ node_of numbers.now v }
 {
-    let mut left = number(numbers, LAYERS);
-    let mut layer: usize = 1;
     let mut at = FIRST_LAYER;
     let mut rest = v;
-    while 0 < left {
+    for above in 0..number(numbers, LAYERS) {
         let count = number(numbers, at);
         if rest < count {
-            return Location::Node(layer, rest + 1);
+            return Some(Location {
+                layer: above + 1,
+                position: rest + 1,
+            });
         }
         rest -= count;
         at += layer_size(count);
-        layer += 1;
-        left -= 1;
     }
-    Location::Nowhere
+    None
 }

@@ -7,7 +7,7 @@ ghost use Rattle.leb128.specs.inside.Storing.{Room, Puts};
 ghost use Rattle.sheet.specs.Limits.{magic_bytes};
 
 use crate::limits::MAGIC_BYTES;
-use leb128::{Placed, write_number};
+use leb128::write_number;
 
 // Writes a number that has its form and its room at a position, and gives the position behind it.
 pub fn put(bytes: &mut [u8], at: usize, n: u32) -> usize
@@ -15,11 +15,7 @@ pub fn put(bytes: &mut [u8], at: usize, n: u32) -> usize
     requires room { Room bytes.old at (encode number_bytes n) }
     ensures { Puts bytes.old at (encode number_bytes n) bytes.new result }
 {
-    let placed = write_number(bytes, at, n);
-    let Placed::Next(next) = placed else {
-        return at;
-    };
-    next
+    write_number(bytes, at, n).unwrap()
 }
 
 // Writes a magic into the front of the slice.
@@ -27,7 +23,5 @@ pub fn put_magic(bytes: &mut [u8], magic: [u8; MAGIC_BYTES])
     requires { magic_bytes ≤ length bytes.old }
     ensures { bytes.new ≡ sets bytes.old 0 magic }
 {
-    bytes[0] = magic[0];
-    bytes[1] = magic[1];
-    bytes[2] = magic[2];
+    bytes[..MAGIC_BYTES].copy_from_slice(&magic);
 }

@@ -1,5 +1,3 @@
-pub mod Counted
-pub mod Adding
 pub mod Starts
 pub mod Chaining
 pub mod Walking

@@ -1,14 +1,13 @@
-// Packed edges in chains, one for each layer, by their lower ends. A link is 0 where there is no edge, else the edge's index and 1. The
-// first links lead from a layer's first node to the last edge of the layer, those behind them from each edge to the one before it in its
-// chain.
-ghost use Rattle.std.specs.Prelude.{◌≡◌, ◌/◌, ◌<◌, T, length, replicate};
+// Packed edges in chains, one for each layer, by their lower ends. A link is 0 if there is no edge, else the edge's index and 1: a number
+// of 16 bits in fixed memory, so no Option. The first links lead from a layer's first node to the last edge of the layer, those behind them
+// from each edge to the one before it in its chain.
+ghost use Rattle.std.specs.Prelude.{◌≡◌, ◌/◌, ◌<◌, T, length, replicate, get_or};
 ghost use Rattle.sheet.specs.Limits.{max_nodes, max_edges};
 ghost use Rattle.network.specs.Packed.{stride};
 ghost use Rattle.totals.specs.RunningSums.{chainable};
-ghost use Rattle.totals.specs.inside.Chains.{links, linked, StartTable, Chained};
+ghost use Rattle.totals.specs.inside.Chains.{link_of, links, linked, StartTable, Chained};
 
 use crate::starts::NODES;
-use leb128::inside::number;
 use network::layout::STRIDE;
 use packed::edge_lower;
 use sheet::limits::MAX_EDGES;
@@ -19,8 +18,8 @@ pub const LINKS: usize = NODES + EDGES;
 // How many edges a sheet may have.
 const EDGES: usize = MAX_EDGES as usize;
 
-// Chains the edges, by the first node of each node's layer, where a sheet may have so many edges and their lower ends are such nodes;
-// whether it is so.
+// Chains the edges, by the first node of each node's layer, if a sheet may have so many edges and their lower ends are such nodes; whether
+// it is so.
 pub fn chain(edges: &[u32], starts: &[u16], chains: &mut [u16]) -> bool
     requires start_table { StartTable starts.now }
     requires chains_value { chains.old ≡ replicate links 0 }
@@ -32,14 +31,11 @@ pub fn chain(edges: &[u32], starts: &[u16], chains: &mut [u16]) -> bool
     if EDGES < count {
         return false;
     }
-    let mut i = 0;
-    while i < count {
-        let lower = edge_lower(edges, i) as usize;
-        if starts.len() <= lower {
+    for i in 0..count {
+        let Some(start) = starts.get(edge_lower(edges, i) as usize) else {
             return false;
-        }
-        put_link(chains, number(starts, lower), i);
-        i += 1;
+        };
+        put_link(chains, usize::from(*start), i);
     }
     true
 }
@@ -51,4 +47,12 @@ fn put_link(chains: &mut [u16], start: usize, i: usize)
 {
     chains[NODES + i] = chains[start];
     chains[start] = (i + 1) as u16;
+}
+
+// The edge to which a link leads, if there is one.
+pub fn edge_at(chains: &[u16], at: usize) -> Option<usize>
+    requires { at < length chains.now }
+    ensures { link_of result ≡ get_or chains.now at 0 }
+{
+    usize::from(chains[at]).checked_sub(1)
 }

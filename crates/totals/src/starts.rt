@@ -4,7 +4,6 @@ ghost use Rattle.sheet.specs.Limits.{max_nodes};
 ghost use Rattle.totals.specs.RunningSums.{layer_start, rises};
 ghost use Rattle.totals.specs.inside.Chains.{InLayer, Near, Starts};
 
-use leb128::inside::number;
 use sheet::limits::MAX_NODES;
 
 // How many nodes a sheet may have; no node of a sheet has this number.
@@ -14,17 +13,8 @@ pub const NODES: usize = MAX_NODES as usize;
 pub fn rising(first: &[u16]) -> bool
     ensures { result ≡ rises first.now }
 {
-    if layer_start(first, 1) != 0 {
-        return false;
-    }
-    let mut i = 0;
-    while i < first.len() {
-        if layer_start(first, i + 2) <= layer_start(first, i + 1) {
-            return false;
-        }
-        i += 1;
-    }
-    true
+    layer_start(first, 1) == 0
+        && (0..first.len()).all(|i| layer_start(first, i + 1) < layer_start(first, i + 2))
 }
 
 // The first node of a layer; of the one behind the last layer, a node that no sheet has.
@@ -32,8 +22,9 @@ pub fn layer_start(first: &[u16], layer: usize) -> usize
     requires { 1 ≤ layer }
     ensures { result ≡ layer_start first.now layer }
 {
+    // A test and an index: by get and map_or a total takes 2 % more instructions.
     if layer <= first.len() {
-        return number(first, layer - 1);
+        return usize::from(first[layer - 1]);
     }
     NODES
 }
@@ -45,11 +36,9 @@ pub fn put_starts(first: &[u16], starts: &mut [u16])
     ensures { Starts first.now starts.new }
 {
     let mut layer = 1;
-    let mut v = 0;
-    while v < starts.len() {
+    for (v, start) in starts.iter_mut().enumerate() {
         layer = layer_of(first, layer, v);
-        starts[v] = layer_start(first, layer) as u16;
-        v += 1;
+        *start = layer_start(first, layer) as u16;
     }
 }
 

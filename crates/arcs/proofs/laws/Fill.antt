@@ -1,5 +1,5 @@
 -- The arcs of the edges and then those of the layers are the network's, and how many they are, from what a plan says.
-use Prim.Native.Nat.{ℕ, zero, suc, ◌+◌, ◌-◌, ◌*◌, ◌≤◌}
+use Prim.Native.Nat.{ℕ, zero, suc, ◌+◌, ◌*◌, ◌≤◌}
 use mathlib.Core.Path.{◌≡◌, sym, ◌∙◌, ap, ap₂}
 use mathlib.Core.List.{List, [], ◌++◌, map, flat_map}
 use native.Mathlib.Omega.{arith}
@@ -41,7 +41,7 @@ last_few n (suc k) v s g h = last_few n k (v + get_or s nodes_at 0) (next_layer 
 module _ {s first : List ℕ} {p : Plan} (g : Good max_nodes s) (planned : Planned s first p) where
   -- the first nodes that the edges are read with
   abbrev firsts : List ℕ
-  firsts = take ((p.layers + 1) - 0) first
+  firsts = take (p.layers + 1) first
 
   -- the arcs of the edges
   abbrev edge_arcs : List Arc
@@ -53,7 +53,7 @@ module _ {s first : List ℕ} {p : Plan} (g : Good max_nodes s) (planned : Plann
 
   -- the first nodes are the sheet's
   firsts_are : firsts ≡ first_nodes p.layers 0 (drop first_layer_at s)
-  firsts_are = let k : (p.layers + 1) - 0 ≡ p.layers + 1 = omega arith in rw k planned.firsts
+  firsts_are = planned.firsts
 
   -- they never fall
   pub firsts_rise : Rising firsts

@@ -14,62 +14,60 @@ use Rattle.arcs.specs.declared.ReadEdge.{ReadEdge}
 use Rattle.arcs.proofs.laws.Edges.{good_at}
 use Rattle.arcs.proofs.laws.TraceTable.{joins, raised}
 
--- so many edges are left in front of an index, and the table is made of those behind it
-pub record Gathering (s first : List ℕ) (start count : ℕ) (old table : List ℕ) (left at : ℕ) : Type 0 where
+-- so many edges are left, and the table is made of those behind them
+pub record Gathering (s first : List ℕ) (start count : ℕ) (old table : List ℕ) (left : ℕ) : Type 0 where
   pub done : ℕ
   pub split : done + left ≡ count
-  pub here : at ≡ start + edge_stride * left
   pub size : length table ≡ length old
-  pub tabled : Tabled first table (strongest (edges_of first done (drop at s)))
+  pub tabled : Tabled first table (strongest (edges_of first done (drop (start + edge_stride * left) s)))
 
 -- before the last edge
 pub gathering_begin : (s first : List ℕ) (start count : ℕ) {table : List ℕ} → Tabled first table (strongest [])
-    → Gathering s first start count table table count (start + edge_stride * count)
+    → Gathering s first start count table table count
 gathering_begin s first start count t =
-    record { done = 0; split = omega arith; here = refl; size = refl; tabled = t }
+    record { done = 0; split = omega arith; size = refl; tabled = t }
 
-module _ {s first old table : List ℕ} {start count left at : ℕ} (p : Gathering s first start count old table left at) (h : 0 < left)
+module _ {s first old table : List ℕ} {start count left : ℕ} (p : Gathering s first start count old table left) (h : 0 < left)
     (good : GoodEdges max_nodes first count (drop start s)) where
   -- where the edge before stands
-  before_here : at - edge_stride ≡ start + edge_stride * (left - 1)
-  before_here = omega (arith, p.here)
+  abbrev here : ℕ
+  here = start + edge_stride * (left - 1)
 
   -- it is good
-  pub before_good : GoodEdge max_nodes first (drop (at - edge_stride) s)
-  before_good = rw before_here (good_at count start (left - 1) s (omega (arith, p.split)) good)
+  pub before_good : GoodEdge max_nodes first (drop here s)
+  before_good = good_at count start (left - 1) s (omega (arith, p.split)) good
 
   -- its index is in the table, and its upper end is a node
-  pub before_inside : {e : ReadEdge} → e ≡ as_read (edge_of first (drop (at - edge_stride) s))
+  pub before_inside : {e : ReadEdge} → e ≡ as_read (edge_of first (drop here s))
       → (slot_of e.upper e.lower < length table) × (e.upper < max_nodes)
   before_inside is =
-      let x : Edge = edge_of first (drop (at - edge_stride) s) in
-      rw is (p.tabled.room x (joins (drop (at - edge_stride) s) before_good), before_good.upper)
+      let x : Edge = edge_of first (drop here s) in
+      rw is (p.tabled.room x (joins (drop here s) before_good), before_good.upper)
 
   -- it raises its number
-  pub gathering_step : {e : ReadEdge} {newer : List ℕ} → Rising first → e ≡ as_read (edge_of first (drop (at - edge_stride) s))
+  pub gathering_step : {e : ReadEdge} {newer : List ℕ} → Rising first → e ≡ as_read (edge_of first (drop here s))
       → newer ≡ set table (slot_of e.upper e.lower) (max e.strength (get_or table (slot_of e.upper e.lower) 0))
-      → Gathering s first start count old newer (left - 1) (at - edge_stride)
+      → Gathering s first start count old newer (left - 1)
   gathering_step {e} {newer} rise is stored =
-      let x : Edge = edge_of first (drop (at - edge_stride) s) in
+      let x : Edge = edge_of first (drop here s) in
       let now : newer ≡ set table (slot x) (max (as_read x).strength (get_or table (slot x) 0)) =
       stored ∙ ap (λ (r : ReadEdge). set table (slot_of r.upper r.lower)
       (max r.strength (get_or table (slot_of r.upper r.lower) 0))) is in
-      let next : (at - edge_stride) + edge_stride ≡ at = omega (arith, p.here) in
-      let behind : drop edge_stride (drop (at - edge_stride) s) ≡ drop at s =
-      drop-drop edge_stride (at - edge_stride) s ∙ ap (λ (k : ℕ). drop k s) next in
+      let next : here + edge_stride ≡ start + edge_stride * left = omega arith in
+      let behind : drop edge_stride (drop here s) ≡ drop (start + edge_stride * left) s =
+      drop-drop edge_stride here s ∙ ap (λ (k : ℕ). drop k s) next in
       record {
         done = suc p.done;
         split = omega (arith, p.split);
-        here = before_here;
         size = ap length now ∙ length-set table (slot x) (max (as_read x).strength (get_or table (slot x) 0)) ∙ p.size;
-        tabled = rw (now, behind) (raised rise (edges_of first p.done (drop at s)) x p.tabled
-            (joins (drop (at - edge_stride) s) before_good));
+        tabled = rw (now, behind) (raised rise (edges_of first p.done (drop (start + edge_stride * left) s)) x p.tabled
+            (joins (drop here s) before_good));
       }
 
 -- no edge is left
-pub gathering_end : {s first old table : List ℕ} {start count left at : ℕ} → Gathering s first start count old table left at → left ≡ 0
+pub gathering_end : {s first old table : List ℕ} {start count left : ℕ} → Gathering s first start count old table left → left ≡ 0
     → Tabled first table (strongest (edges_of first count (drop start s)))
 gathering_end {start = start} {count = count} p e =
     let all : p.done ≡ count = omega (arith, p.split) in
     let front : start + edge_stride * 0 ≡ start = omega arith in
-    rw (p.here, e, all, front) at p.tabled
+    rw (e, all, front) at p.tabled

@@ -1,5 +1,5 @@
 -- The arcs of pairs, written one after the other: two arcs make a pair, and each pair is a part of what is left.
-use Prim.Native.Nat.{ℕ, zero, suc, ◌+◌, ◌-◌, ◌*◌, ◌≤◌, ◌<◌}
+use Prim.Native.Nat.{ℕ, zero, suc, ◌+◌, ◌-◌, ◌*◌, ◌<◌}
 use mathlib.Core.Path.{◌≡◌, refl, ◌∙◌, ap}
 use mathlib.Core.List.{List, [], ◌∷◌, ◌++◌, flat_map}
 use native.Mathlib.Numerals.{add-one}
@@ -8,15 +8,15 @@ use lib.IntN.{pos, neg_ℤ}
 use lib.ListN.{length, get_or, drop}
 use lib.Seq.{drop-drop}
 use Rattle.leb128.specs.inside.Storing.{Puts}
-use Rattle.leb128.specs.laws.Storing.{Left, left_end}
-use Rattle.sheet.specs.Limits.{max_nodes}
+use Rattle.leb128.specs.laws.Storing.{Left, left_begin, left_end}
 use Rattle.sheet.specs.Layout.{separation_stride, minimum_at, maximum_at}
+use Rattle.network.specs.Network.{Arc}
 use Rattle.network.specs.Packed.{stride, kink_zero, flow_zero, high_none, packs}
 use Rattle.network.proofs.laws.PackedBack.{packs_length}
 use Rattle.drawing.specs.Sheet.{pairs_of}
 use Rattle.drawing.specs.Arcs.{minimum_arc, maximum_arc, separation_arcs}
 use Rattle.arcs.specs.inside.Pieces.{pair_at}
-use Rattle.arcs.proofs.laws.Numbers.{less_one, number_behind}
+use Rattle.arcs.proofs.laws.Numbers.{number_behind}
 use Rattle.arcs.proofs.laws.Packing.{puts_arcs, left_arcs, upper_bound_packs, minimum_kink}
 
 -- two arcs make a pair
@@ -40,38 +40,49 @@ pairs_length zero v s = refl
 pairs_length (suc k) v s = omega (arith, pairs_length k (suc v) (drop separation_stride s))
 
 -- the first of some pairs, and the others
-pairs_next : (k v at : ℕ) (s : List ℕ) → 0 < k
+pairs_next : {k others v u next : ℕ} (at : ℕ) (s : List ℕ) → k ≡ suc others → u ≡ suc v → next ≡ at + separation_stride
     → flat_map separation_arcs (pairs_of k v (drop at s))
-    ≡ separation_arcs (pair_at v (drop at s)) ++ flat_map separation_arcs (pairs_of (k - 1) (v + 1) (drop (at + separation_stride) s))
+    ≡ separation_arcs (pair_at v (drop at s)) ++ flat_map separation_arcs (pairs_of others u (drop next s))
 unfolding flat_map
-pairs_next zero v at s h = absurd (omega arith)
-pairs_next (suc k) v at s h =
-    ap (λ (t : List ℕ). separation_arcs (pair_at v (drop at s)) ++ flat_map separation_arcs (pairs_of k (suc v) t))
-    (drop-drop separation_stride at s)
-    ∙ rw (add-one v, less_one k)
+pairs_next {others = others} {v} at s e f g =
+    rw (e, f, g)
+    (ap (λ (t : List ℕ). separation_arcs (pair_at v (drop at s)) ++ flat_map separation_arcs (pairs_of others (suc v) t))
+    (drop-drop separation_stride at s))
 
--- the loop over the pairs
-pub record PairsLeft (s : List ℕ) (start count first n : ℕ) (old new : List ℕ) (todo at v m : ℕ) : Type 0 where
-  pub inside : (at + separation_stride * todo ≤ length s) × (v + todo ≤ max_nodes)
-  pub room : m + 2 * stride * todo ≡ n + 2 * stride * count
-  pub left : Left old n (packs (flat_map separation_arcs (pairs_of count first (drop start s)))) new m
-      (packs (flat_map separation_arcs (pairs_of todo v (drop at s))))
+-- the arcs of the pairs from pair k on
+abbrev pairs_from : List ℕ → ℕ → ℕ → ℕ → ℕ → List Arc
+pairs_from s start count first k =
+    flat_map separation_arcs (pairs_of (count - k) (first + k) (drop (start + separation_stride * k) s))
 
-module _ {s old new : List ℕ} {start count first n todo at v m : ℕ} (p : PairsLeft s start count first n old new todo at v m) where
+-- the loop over the pairs: k of them are written
+pub record PairsLeft (s : List ℕ) (start count first n : ℕ) (old new : List ℕ) (k m : ℕ) : Type 0 where
+  pub room : m ≡ n + 2 * stride * k
+  pub left : Left old n (packs (flat_map separation_arcs (pairs_of count first (drop start s)))) new m (packs (pairs_from s start count first k))
+
+-- no pair is written
+pub pairs_begin : (s : List ℕ) (start count first n : ℕ) (old : List ℕ) → PairsLeft s start count first n old old 0 n
+pairs_begin s start count first n old =
+    let all : count - 0 ≡ count = omega arith in
+    let same : first + 0 ≡ first = omega arith in
+    let front : start + separation_stride * 0 ≡ start = omega arith in
+    record { room = omega arith; left = rw (all, same, front) (left_begin _ _ _) }
+
+module _ {s old new : List ℕ} {start count first n k m : ℕ} (p : PairsLeft s start count first n old new k m) where
   -- one pair more
-  pub pairs_step : {newer : List ℕ} {l : ℕ} → 0 < todo → Puts new m (packs (separation_arcs (pair_at v (drop at s)))) newer l
-      → PairsLeft s start count first n old newer (todo - 1) (at + separation_stride) (v + 1) l
+  pub pairs_step : {newer : List ℕ} {l : ℕ} → k < count
+      → Puts new m (packs (separation_arcs (pair_at (first + k) (drop (start + separation_stride * k) s)))) newer l
+      → PairsLeft s start count first n old newer (k + 1) l
   pairs_step h a =
-      let pair = separation_arcs (pair_at v (drop at s)) in
+      let pair = separation_arcs (pair_at (first + k) (drop (start + separation_stride * k) s)) in
+      let next = pairs_next {k = count - k} {others = count - (k + 1)} {v = first + k} {u = first + (k + 1)}
+      {next = start + separation_stride * (k + 1)} (start + separation_stride * k) s
+      (omega arith) (omega arith) (omega arith) in
       record {
-        inside = (omega (arith, p.inside.0), omega (arith, p.inside.1));
         room = omega (arith, p.room, a.behind, packs_length pair);
-        left =
-            left_arcs pair (flat_map separation_arcs (pairs_of (todo - 1) (v + 1) (drop (at + separation_stride) s)))
-            (rw (pairs_next todo v at s h) at p.left) a;
+        left = left_arcs pair (pairs_from s start count first (k + 1)) (rw next at p.left) a;
       }
 
   -- no pair is left
-  pub pairs_end : todo ≡ 0 → Puts old n (packs (flat_map separation_arcs (pairs_of count first (drop start s)))) new m
+  pub pairs_end : k ≡ count → Puts old n (packs (flat_map separation_arcs (pairs_of count first (drop start s)))) new m
   unfolding flat_map packs
-  pairs_end e = left_end (rw e at p.left)
+  pairs_end e = let none : count - k ≡ 0 = omega arith in left_end (rw none at p.left)

@@ -1,5 +1,7 @@
 -- `arcs::load_numbers` meets its contract: too short a slice, or enough of both, by the counts of the plan.
+use mathlib.Core.Path.{ap}
 use native.Mathlib.Omega.{arith}
+use Rattle.std.specs.Prelude.{Err}
 use Rattle.arcs.proofs.laws.Fill.{nodes_few, edges_there}
 use Rattle.arcs.proofs.laws.Load.{short_firsts, short_arcs, enough}
 use Rattle.arcs.proofs.load_numbers.Goals as goal
@@ -15,7 +17,7 @@ overflow_add-count c =
 pub returns-then-first-layers : goal.returns-then-first-layers
 returns-then-first-layers c =
     let both = short_firsts c.requires c.plan-known.ensures c.args.first.now c.args.arcs.now
-    c.if-first-layers.true c.short.ensures in
+    c.if-first-layers.true (ap Err c.new.ensures) in
     record {
       answer = both.0;
       first = both.1.0;
@@ -29,7 +31,7 @@ overflow_mul-count-2 c =
 pub returns-then-arcs-count : goal.returns-then-arcs-count
 returns-then-arcs-count c =
     let both = short_arcs c.requires c.plan-known.ensures c.args.first.now c.args.arcs.now c.if-arcs-count.true
-    c.short-then-arcs-count.ensures in
+    (ap Err c.new-then-arcs-count.ensures) in
     record {
       answer = both.0;
       first = both.1.0;

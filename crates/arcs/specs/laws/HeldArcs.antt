@@ -9,7 +9,7 @@ use Rattle.std.proofs.Math.Seq.{take_at}
 use Rattle.leb128.specs.Format.Result.{elements}
 use Rattle.sheet.specs.Reading.{read_sheet}
 use Rattle.sheet.specs.Layout.{node_count}
-use Rattle.sheet.specs.Limits.{max_nodes}
+use Rattle.sheet.specs.Limits.{max_nodes, max_edges}
 use Rattle.network.specs.Sums.{all}
 use Rattle.network.specs.Network.{Arc}
 use Rattle.network.specs.Packed.{kink_at, stride, kink_zero, packs, packed, storable, arcs_to, network_of}
@@ -79,6 +79,10 @@ module _ {f a : List ℕ} {c : Counts} (h : Holds f a c) where
   -- few nodes
   pub nodes_few : c.nodes ≤ max_nodes
   nodes_few = omega (arith, h.nodes_are, proper.nodes)
+
+  -- few edges
+  pub edges_few : c.edges ≤ max_edges
+  edges_few = omega (arith, h.edges_are, proper.few)
 
   -- the first nodes are there, with the count of nodes
   pub firsts_there : c.layers + 1 ≤ length f

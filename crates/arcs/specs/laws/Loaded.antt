@@ -1,6 +1,7 @@
 -- What a caller of `load` knows: a good sheet whose first nodes and packed arcs stand in front of the slices, or a refusal; and that
 -- slices of 65 and of 5,120 elements are long enough for every sheet. By the cases of what reading gives and of the room.
-use Rattle.std.specs.Prelude.{ℕ, ◌≤◌, ◌≡◌, refl, Bool, true, false, cond, List, ◌++◌, length, drop}
+use Rattle.std.specs.Prelude.{ℕ, ◌≤◌, ◌≡◌, refl, Bool, true, false, cond, List, ◌++◌, length, drop, Ok, Err}
+use Rattle.std.specs.Prelude.{Result as Answer}
 use Rattle.std.proofs.Common.{sym, ◌∙◌, ap, arith}
 use Rattle.leb128.specs.Refusals.{slice_short}
 use Rattle.leb128.specs.Source.{refusal}
@@ -28,8 +29,6 @@ use Rattle.arcs.specs.Loading.{fitted, load_answer, load_firsts, load_arcs}
 use Rattle.arcs.specs.laws.LayerFirsts.{sheet_layers}
 use Rattle.arcs.specs.laws.Fitting.{both_fit}
 use Rattle.arcs.specs.declared.Counts.{Counts}
-use Rattle.arcs.specs.declared.Loaded.{Loaded}
-use Rattle.arcs.specs.declared.Loaded.TheVariants.{Sheet, Refused}
 
 -- a sheet that was loaded from bytes into two slices: its numbers, which are good, its counts, and the slices afterwards
 pub record LoadedSheet (bytes f₀ f a₀ a : List ℕ) (c : Counts) : Type 0 where
@@ -41,17 +40,17 @@ pub record LoadedSheet (bytes f₀ f a₀ a : List ℕ) (c : Counts) : Type 0 wh
   pub arcs : a ≡ packed (network (sheet_of numbers)) ++ drop (arcs_size (sheet_of numbers)) a₀
 
 -- what an answer with a sheet stands for
-sheet_answer : {answer : Loaded} {c : Counts} {l : Reply Counts} → answer ≡ Sheet c → loading answer ≡ l → Reply.value c ≡ l
+sheet_answer : {answer : Answer Counts Refusal} {c : Counts} {l : Reply Counts} → answer ≡ Ok c → loading answer ≡ l → Reply.value c ≡ l
 unfolding loading
 sheet_answer is e = sym (ap loading is) ∙ e
 
 -- what a refusal stands for
-refused_answer : {answer : Loaded} {r : Refusal} {l : Reply Counts} → answer ≡ Refused r → loading answer ≡ l → Reply.refused r ≡ l
+refused_answer : {answer : Answer Counts Refusal} {r : Refusal} {l : Reply Counts} → answer ≡ Err r → loading answer ≡ l → Reply.refused r ≡ l
 unfolding loading
 refused_answer is e = sym (ap loading is) ∙ e
 
 -- an answer with a sheet
-pub loaded_sheet : (bytes f₀ a₀ : List ℕ) {f a : List ℕ} {answer : Loaded} {c : Counts} → answer ≡ Sheet c
+pub loaded_sheet : (bytes f₀ a₀ : List ℕ) {f a : List ℕ} {answer : Answer Counts Refusal} {c : Counts} → answer ≡ Ok c
     → loading answer ≡ load_answer (fitted f₀ a₀ (read_sheet bytes))
     → f ≡ load_firsts (fitted f₀ a₀ (read_sheet bytes)) f₀
     → a ≡ load_arcs (fitted f₀ a₀ (read_sheet bytes)) a₀ → LoadedSheet bytes f₀ f a₀ a c
@@ -87,8 +86,8 @@ module _ (numbers : List ℕ) (good : Accepts sheet numbers) where
       (arith, proper.nodes, proper.few, arcs_count max_nodes numbers (accepts_good max_nodes (good_layout numbers good).nodes good))
 
 -- where the slices are long enough for every sheet, a refusal is the reader's
-pub reader_refused : (bytes f a : List ℕ) {answer : Loaded} {r : Refusal} → max_firsts ≤ length f → max_elements ≤ length a
-    → answer ≡ Refused r → loading answer ≡ load_answer (fitted f a (read_sheet bytes)) → read_sheet bytes ≡ Result.refused r
+pub reader_refused : (bytes f a : List ℕ) {answer : Answer Counts Refusal} {r : Refusal} → max_firsts ≤ length f → max_elements ≤ length a
+    → answer ≡ Err r → loading answer ≡ load_answer (fitted f a (read_sheet bytes)) → read_sheet bytes ≡ Result.refused r
 unfolding fitted load_answer
 reader_refused bytes f a {answer} {r} h k is e = go (read_sheet bytes) refl (refused_answer is e)
   where
@@ -102,7 +101,7 @@ reader_refused bytes f a {answer} {r} h k is e = go (read_sheet bytes) refl (ref
     go (Result.refused s) i e = let are : s ≡ r = cc in ap Result.refused are
 
 -- a refusal leaves both slices as they were
-pub refused_kept : (loaded : Reply drawing.Sheet) (f a : List ℕ) {answer : Loaded} {r : Refusal} → answer ≡ Refused r
+pub refused_kept : (loaded : Reply drawing.Sheet) (f a : List ℕ) {answer : Answer Counts Refusal} {r : Refusal} → answer ≡ Err r
     → loading answer ≡ load_answer loaded → (load_firsts loaded f ≡ f) × (load_arcs loaded a ≡ a)
 unfolding load_answer load_firsts load_arcs
 refused_kept (Reply.value S) f a is e = absurd (value_not (sym (refused_answer is e)))

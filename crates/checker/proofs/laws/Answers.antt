@@ -1,12 +1,11 @@
 -- The checker's answer case by case, and that a sheet's packed arcs answer for its numbers and its bytes.
 use Prim.Native.Nat.{ℕ, ◌≤◌, ◌<◌}
 use mathlib.Core.Path.{◌≡◌, refl, sym, ◌∙◌, ap, fun_ext}
-use mathlib.Core.Bool.{Bool, true, false}
+use mathlib.Core.Bool.{Bool}
 use mathlib.Core.List.{List}
 use lib.IntN.{ℤ}
 use lib.ListN.{length, take}
 use borrow.Author.Tests.{lt-ltb, le-ltb}
-use Rattle.leb128.specs.Reply.{Reply}
 use Rattle.leb128.specs.Refusals.{slice_short}
 use Rattle.leb128.specs.Source.{refusal}
 use Rattle.leb128.specs.Format.{Result}
@@ -24,39 +23,27 @@ use Rattle.arcs.specs.laws.Loaded.{LoadedSheet}
 use Rattle.arcs.specs.Held.{Holds}
 use Rattle.arcs.specs.laws.HeldArcs.{loaded_holds, holds_reads, size_is, network_is}
 use Rattle.checker.specs.inside.Table.{table_decision}
-use Rattle.checker.specs.declared.Verdict.{Verdict}
-use Rattle.checker.specs.declared.Verdict.TheVariants as variants
+use Rattle.std.specs.Prelude.{Ok, Err}
+use Rattle.std.specs.Prelude.{Result as Answer}
 
 module _ (nodes size : ℕ) (decision : List ℕ → List ℤ → Bool) (places : List ℕ) (list : List ℤ) where
   -- too few places
-  pub short_places : {v : Verdict} → v ≡ variants.Refused (refusal slice_short 0) → length places < nodes
+  pub short_places : {v : Answer Bool Refusal} → v ≡ Err (refusal slice_short 0) → length places < nodes
       → judgement v ≡ decided nodes size decision places list
   unfolding judgement decided
   short_places e h = rw (e, lt-ltb (length places) nodes h)
 
   -- too short a list
-  pub short_list : {v : Verdict} → v ≡ variants.Refused (refusal slice_short 0) → nodes ≤ length places
+  pub short_list : {v : Answer Bool Refusal} → v ≡ Err (refusal slice_short 0) → nodes ≤ length places
       → length list < size → judgement v ≡ decided nodes size decision places list
   unfolding judgement decided
   short_list e h k = rw (e, le-ltb (length places) nodes h, lt-ltb (length list) size k)
 
-  module _ (h : nodes ≤ length places) (k : size ≤ length list) where
-    -- the decision
-    long_enough : Reply.value (decision (take nodes places) (take size list)) ≡ decided nodes size decision places list
-    unfolding decided
-    long_enough = rw (le-ltb (length places) nodes h, le-ltb (length list) size k)
-
-    -- yes
-    pub says_yes : decision (take nodes places) (take size list) ≡ true
-        → judgement variants.Yes ≡ decided nodes size decision places list
-    unfolding judgement
-    says_yes e = sym (ap Reply.value e) ∙ long_enough
-
-    -- no
-    pub says_no : decision (take nodes places) (take size list) ≡ false
-        → judgement variants.No ≡ decided nodes size decision places list
-    unfolding judgement
-    says_no e = sym (ap Reply.value e) ∙ long_enough
+  -- long enough: the decision
+  pub long_enough : {yes : Bool} → nodes ≤ length places → size ≤ length list → yes ≡ decision (take nodes places) (take size list)
+      → judgement (Ok yes) ≡ decided nodes size decision places list
+  unfolding judgement decided
+  long_enough h k e = rw (e, le-ltb (length places) nodes h, le-ltb (length list) size k)
 
 module _ {f a : List ℕ} {c : Counts} (h : Holds f a c) where
   -- the packed arcs decide as the sheet does
@@ -85,6 +72,6 @@ loaded_answer {bytes} l places list = held_answer (loaded_holds l) bytes places 
 
 -- a refusal of reading is the answer
 pub refused_answer : (bytes : List ℕ) {r : Refusal} → read_sheet bytes ≡ Result.refused r → (places : List ℕ) (list : List ℤ)
-    → judgement (variants.Refused r) ≡ check_answer (read_sheet bytes) places list
+    → judgement (Err r) ≡ check_answer (read_sheet bytes) places list
 unfolding judgement check_answer
 refused_answer bytes e places list = rw e refl

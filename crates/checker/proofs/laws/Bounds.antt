@@ -14,7 +14,7 @@ use Rattle.network.specs.laws.Sizes.{size_neg, size_add}
 use Rattle.arcs.specs.Limits.{max_arcs}
 use Rattle.checker.specs.inside.Sizes.{i64_limit, term_size, bound_size}
 use Rattle.checker.proofs.laws.Loops.{sum_none, sum_next}
-use Rattle.checker.proofs.laws.Bits.{read}
+use Rattle.checker.proofs.laws.Bits.{read, read_less}
 
 -- the bound of the first i flows
 abbrev bound_to : List ℕ → List ℤ → ℕ → ℤ
@@ -44,14 +44,14 @@ module _ {a : List ℕ} {y : List ℤ} {n i : ℕ} {result : ℤ} (p : Bounding 
   -- a term less
   module _ {w : ℤ} (is : w ≡ get_or y i (pos 0) *ℤ (arc_at a i).kink) (small : nat_abs w ≤ term_size) where
     -- the difference does not wrap
-    pub bounding_fits : nat_abs result + nat_abs (to_z w64 (of_z w64 w)) < i64_limit
+    bounding_fits : nat_abs result + nat_abs (to_z w64 (of_z w64 w)) < i64_limit
     bounding_fits = omega (arith, ap nat_abs p.is, ap nat_abs (read w (omega arith)), p.small, p.turns)
 
     -- one flow more
-    pub bounding_next : {r : ℤ} → i < n → r ≡ result -ℤ to_z w64 (of_z w64 w) → Bounding a y n (i + 1) r
-    bounding_next {r} l e = record {
+    pub bounding_next : i < n → Bounding a y n (i + 1) (to_z w64 (of_z w64 (result -ℤ to_z w64 (of_z w64 w))))
+    bounding_next l = record {
       turns = omega arith;
-      is = e ∙ ap₂ ◌+ℤ◌ p.is (ap neg_ℤ (read w (omega arith) ∙ is)) ∙ sym (sum_next bound_term (flow_at a y) i);
+      is = read_less result (to_z w64 (of_z w64 w)) bounding_fits ∙ ap₂ ◌+ℤ◌ p.is (ap neg_ℤ (read w (omega arith) ∙ is)) ∙ sym (sum_next bound_term (flow_at a y) i);
       small = rw (sum_next bound_term (flow_at a y) i) (omega (
         arith,
         size_add (bound_to a y i) (bound_term (flow_at a y i)),

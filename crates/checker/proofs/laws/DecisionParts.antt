@@ -1,13 +1,11 @@
 -- The decision on packed arcs, part by part, and the code's total, which is the network's where the places are a drawing.
-use Prim.Native.Nat.{ℕ, ◌-◌, ◌*◌, ◌≤◌, min}
+use Prim.Native.Nat.{ℕ, ◌*◌, min}
 use mathlib.Core.Path.{◌≡◌, sym, ◌∙◌, ap, ap₂, subst}
 use mathlib.Core.Bool.{Bool, true, false, ◌&&◌}
 use mathlib.Core.List.{List}
-use native.Mathlib.Omega.{arith}
 use lib.Dec.{T}
 use lib.IntN.{ℤ, pos}
 use lib.ListN.{length, take, length-map}
-use lib.Seq.{length-take-le}
 use borrow.Author.Tests.{eq-eqb}
 use Rattle.network.specs.Integers.{eqZ}
 use Rattle.network.specs.Sums.{all, sum, upto}
@@ -25,14 +23,9 @@ use Rattle.arcs.specs.declared.Counts.{Counts}
 use Rattle.arcs.specs.Held.{Holds}
 use Rattle.arcs.specs.laws.HeldArcs.{proper, network_is, edges_front}
 use Rattle.checker.specs.inside.Table.{table_decision}
-
--- from the start of a slice
-pub less_none : (n : ℕ) → n - 0 ≡ n
-less_none n = omega arith
-
--- the length of a slice's front
-pub front_length : {A : Type 0} (n : ℕ) (l : List A) → n ≤ length l → length (take (n - 0) l) ≡ n
-front_length n l h = rw (less_none n) (length-take-le n l h)
+use mathlib.Core.Logic.{∥∥₁_elim}
+use denote.Struct.Props.{≡_prop}
+use Rattle.std.specs.Coded.{coded_bool}
 
 module _ {f a : List ℕ} {c : Counts} (h : Holds f a c) (p : List ℕ) (long : length p ≡ c.nodes)
     (e : all (legal (integers p)) (arcs_to a c.arcs) ≡ true) where
@@ -44,17 +37,16 @@ module _ {f a : List ℕ} {c : Counts} (h : Holds f a c) (p : List ℕ) (long : 
   })
 
   -- so the code's total is the network's
-  total_is : {r : ℕ} → r ≡ min u32_most (lengths_of p (take (stride * c.edges - 0) a))
+  total_is : {r : ℕ} → r ≡ min u32_most (lengths_of p (take (stride * c.edges) a))
       → pos r ≡ total (network_of a c.nodes c.arcs) (integers p)
   total_is q =
       ap pos
-      (q ∙ ap (λ (k : ℕ). min u32_most (lengths_of p (take k a))) (less_none (stride * c.edges))
-      ∙ ap (λ (l : List ℕ). min u32_most (lengths_of p l)) (edges_front h)
+      (q ∙ ap (λ (l : List ℕ). min u32_most (lengths_of p l)) (edges_front h)
       ∙ drawing_total (sheet_of h.numbers) p (proper h) is_drawing)
       ∙ sym (same_total (sheet_of h.numbers) p is_drawing)
       ∙ sym (ap (λ (N : Network). total N (integers p)) (network_is h))
 
-module _ {f a : List ℕ} {c : Counts} (h : Holds f a c) (p : List ℕ) (y : List ℤ) (long : length p ≡ c.nodes) where
+module _ (a : List ℕ) (c : Counts) (p : List ℕ) (y : List ℤ) (long : length p ≡ c.nodes) where
   -- every arc is legal
   abbrev legals : Bool
   legals = all (legal (integers p)) (arcs_to a c.arcs)
@@ -92,9 +84,9 @@ module _ {f a : List ℕ} {c : Counts} (h : Holds f a c) (p : List ℕ) (y : Lis
         pub not_balanced : balanced ≡ false → false ≡ table_decision a c p y
         not_balanced v = sym (parts ∙ rw (sym l ∙ t, sym w ∙ u, sym b ∙ v))
 
-        -- the total and the bound decide
-        pub by_bound : balanced ≡ true → {r : ℕ} {z : ℤ} → r ≡ min u32_most (lengths_of p (take (stride * c.edges - 0) a))
+        -- the total and the bound decide, whatever sheet is held
+        pub by_bound : balanced ≡ true → {f : List ℕ} → ∥ Holds f a c ∥₁ → {r : ℕ} {z : ℤ} → r ≡ min u32_most (lengths_of p (take (stride * c.edges) a))
             → z ≡ sum bound_term (upto c.arcs (flow_at a y)) → eqZ (pos r) z ≡ table_decision a c p y
-        by_bound v q z =
-            ap₂ eqZ (total_is h p long (sym l ∙ t) q) z
-            ∙ sym (parts ∙ rw (sym l ∙ t, sym w ∙ u, sym b ∙ v))
+        by_bound v held q z =
+            ∥∥₁_elim held (≡_prop coded_bool _ _)
+            (λ h. ap₂ eqZ (total_is h p long (sym l ∙ t) q) z ∙ sym (parts ∙ rw (sym l ∙ t, sym w ∙ u, sym b ∙ v)))

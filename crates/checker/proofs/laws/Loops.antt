@@ -1,5 +1,5 @@
--- A loop over a test: every element so far passes, or one fails. And one more term of a sum.
-use Prim.Native.Nat.{ℕ, zero, suc, ◌+◌, ◌≤◌, ◌<◌}
+-- A test of each element is a test of their list. And one more term of a sum.
+use Prim.Native.Nat.{ℕ, zero, suc, ◌+◌, ◌<◌}
 use mathlib.Core.Path.{◌≡◌, refl, sym, ◌∙◌, ap, ap₂}
 use mathlib.Core.Bool.{Bool, true, false, ◌&&◌, and-true, and-false, and_comm}
 use mathlib.Core.List.{[], ◌∷◌}
@@ -8,6 +8,7 @@ use native.Mathlib.Numerals.{add-one}
 use native.Mathlib.Omega.{arith}
 use lib.IntN.{ℤ, pos, ◌+ℤ◌, +ℤ_idr}
 use Rattle.network.specs.Sums.{all, sum, below, upto}
+use Rattle.network.specs.Tested.{Tested}
 use Rattle.network.specs.laws.Tests.{all_append}
 use Rattle.network.specs.laws.Sums.{sum_append}
 use Rattle.network.specs.laws.Indexed.{upto_next}
@@ -15,6 +16,10 @@ use Rattle.network.specs.laws.Indexed.{upto_next}
 -- a number below the last
 before : (i n : ℕ) → i < suc n → (i ≡ n → ⊥) → i < n
 before i n h ne = omega arith
+
+-- two constructors
+false_true : false ≡ true → ⊥
+false_true e = cc
 
 module _ {A : Type 0} where
   -- a test at one more element
@@ -37,30 +42,25 @@ module _ {A : Type 0} where
         | no ne ↦ ap (λ (b : Bool). b && t (f n)) (all_false t f n i (before i n h ne) e)
       ]
 
-  -- of n elements the first i pass
-  pub record Passing (t : A → Bool) (f : ℕ → A) (n i : ℕ) : Type 0 where
-    pub turns : i ≤ n
-    pub passed : all t (upto i f) ≡ true
-
-  -- before the first
-  pub passing_begin : (t : A → Bool) (f : ℕ → A) (n : ℕ) → Passing t f n 0
+  -- a test that no element fails
+  all_true : (t : A → Bool) (f : ℕ → A) (n : ℕ) → ((i : ℕ) → i < n → t (f i) ≡ true) → all t (upto n f) ≡ true
   unfolding upto
-  passing_begin t f n = record { turns = omega arith; passed = refl }
+  all_true t f zero p = refl
+  all_true t f (suc n) p = all_suc t f n ∙ ap₂ ◌&&◌ (all_true t f n (λ i h. p i (omega arith))) (p n (omega arith))
 
-  module _ {t : A → Bool} {f : ℕ → A} {n i : ℕ} (p : Passing t f n i) where
-    -- the code's test of the next one passes
-    pub passing_next : {b : Bool} → i < n → b ≡ t (f i) → b ≡ true → Passing t f n (i + 1)
-    passing_next h e x = record { turns = omega arith; passed = all_next t f i ∙ ap₂ ◌&&◌ p.passed (sym e ∙ x) }
+  -- a test that all pass is one that each passes
+  each_true : (t : A → Bool) (f : ℕ → A) (n i : ℕ) (b : Bool) → t (f i) ≡ b → i < n → all t (upto n f) ≡ true → t (f i) ≡ true
+  each_true t f n i true e h p = e
+  each_true t f n i false e h p = absurd (false_true (sym (all_false t f n i h e) ∙ p))
 
-    -- it fails
-    pub passing_fails : {b : Bool} → i < n → b ≡ t (f i) → b ≡ false → false ≡ all t (upto n f)
-    passing_fails h e x = sym (all_false t f n i h (sym e ∙ x))
-
-    -- there is no next one
-    pub passing_end : n ≤ i → true ≡ all t (upto n f)
-    passing_end h =
-        let e : i ≡ n = omega (arith, p.turns) in
-        sym p.passed ∙ ap (λ (k : ℕ). all t (upto k f)) e
+  -- whether each of the first n elements passes is the test of their list
+  pub all_is : (t : A → Bool) (f : ℕ → A) (n : ℕ) (r : Bool) → Tested ((i : ℕ) → i < n → t (f i) ≡ true) r → r ≡ all t (upto n f)
+  all_is t f n true p = sym (all_true t f n p)
+  all_is t f n false p = none (all t (upto n f)) refl
+    where
+      none : (b : Bool) → all t (upto n f) ≡ b → false ≡ all t (upto n f)
+      none true e = absurd (p (λ i h. each_true t f n i (t (f i)) refl h e))
+      none false e = sym e
 
   -- a sum of no term
   pub sum_none : (g : A → ℤ) (f : ℕ → A) → sum g (upto 0 f) ≡ pos 0
@@ -75,5 +75,6 @@ module _ {A : Type 0} where
 
 -- a test of the numbers below n, as a test of a list
 pub all_below : (t : ℕ → Bool) (n : ℕ) → all t (upto n (λ i. i)) ≡ below n t
-all_below t zero = (passing_begin t (λ i. i) 0).passed
+unfolding upto
+all_below t zero = refl
 all_below t (suc n) = all_suc t (λ i. i) n ∙ ap (λ (b : Bool). b && t n) (all_below t n) ∙ and_comm (below n t) (t n)

@@ -18,7 +18,6 @@ use Rattle.network.specs.laws.IntegerParts.{sum_parts, up_neg, down_neg}
 use Rattle.network.specs.Integers.{down, up}
 use Rattle.drawing.specs.Drawing.{coordinate}
 use Rattle.leb128.specs.Words.{Small}
-use Rattle.checker.specs.inside.Table.{Wide}
 
 -- number k of arc i
 abbrev number : List ℕ → ℕ → ℕ → ℕ
@@ -96,27 +95,27 @@ pub record SidesAre (a p : List ℕ) (i h t : ℕ) : Type 0 where
   pub tail : t ≡ tail_side a p i
 
 -- the same, from what the code reads
-pub sides_are : (a p : List ℕ) (i : ℕ) {u v k x y : ℕ} → Wide u (number a i head_at) → Small x (coordinate p u)
-    → Wide v (number a i tail_at) → Small y (coordinate p v) → Wide k (number a i kink_at) → SidesAre a p i (x + kink_zero) (y + k)
+pub sides_are : (a p : List ℕ) (i : ℕ) {u v k x y : ℕ} → u ≡ number a i head_at → Small x (coordinate p u)
+    → v ≡ number a i tail_at → Small y (coordinate p v) → k ≡ number a i kink_at → SidesAre a p i (x + kink_zero) (y + k)
 sides_are a p i u x v y k = record {
-  head = ap (λ (n : ℕ). n + kink_zero) (x.is ∙ ap (coordinate p) u.is);
-  tail = ap₂ ◌+◌ (y.is ∙ ap (coordinate p) v.is) k.is;
+  head = ap (λ (n : ℕ). n + kink_zero) (x.is ∙ ap (coordinate p) u);
+  tail = ap₂ ◌+◌ (y.is ∙ ap (coordinate p) v) k;
 }
 
 module _ {a p : List ℕ} {i h t : ℕ} (s : SidesAre a p i h t) where
   -- right of the kink the high limit decides
-  pub legal_right : {n : ℕ} → Wide n (number a i high_at) → t < h → not (eqb n high_none) ≡ legal (integers p) (arc_at a i)
+  pub legal_right : {n : ℕ} → n ≡ number a i high_at → t < h → not (eqb n high_none) ≡ legal (integers p) (arc_at a i)
   unfolding high_of
   legal_right w l =
-      ap (λ (n : ℕ). not (eqb n high_none)) w.is
+      ap (λ (n : ℕ). not (eqb n high_none)) w
       ∙ set_finite (eqb (number a i high_at) high_none) (pos (number a i high_at) -ℤ pos flow_zero)
       ∙ sym (right (arc_at a i) (past_kink (integers p) (arc_at a i)) (omega (arith, sides a p i)))
 
   -- left of it the low limit
-  pub legal_left : {n : ℕ} → Wide n (number a i low_at) → h < t → not (eqb n low_none) ≡ legal (integers p) (arc_at a i)
+  pub legal_left : {n : ℕ} → n ≡ number a i low_at → h < t → not (eqb n low_none) ≡ legal (integers p) (arc_at a i)
   unfolding low_of
   legal_left w l =
-      ap (λ (n : ℕ). not (eqb n low_none)) w.is
+      ap (λ (n : ℕ). not (eqb n low_none)) w
       ∙ set_finite (eqb (number a i low_at) low_none) (pos (number a i low_at) -ℤ pos flow_zero)
       ∙ sym (left (arc_at a i) (past_kink (integers p) (arc_at a i)) (omega (arith, sides a p i)))
 
@@ -144,11 +143,11 @@ pub high_set : (n : ℕ) (y : ℤ) → (n ≡ high_none → ⊥) → le_z y (pos
 unfolding high_of
 high_set n y h = rw (ne_eqb n high_none h)
 
-module _ (a : List ℕ) (y : List ℤ) (i : ℕ) {x : ℤ} {n : ℕ} {b : Bool} (is : x ≡ get_or y i (pos 0)) (low : Wide n (number a i low_at))
+module _ (a : List ℕ) (y : List ℤ) (i : ℕ) {x : ℤ} {n : ℕ} {b : Bool} (is : x ≡ get_or y i (pos 0)) (low : n ≡ number a i low_at)
     (test : b ≡ at_least x (low_of n)) where
   -- what the test of the low limit says of the flow
   at_low : b ≡ at_least (get_or y i (pos 0)) (low_of (number a i low_at))
-  at_low = test ∙ ap₂ (λ (y : ℤ) (n : ℕ). at_least y (low_of n)) is low.is
+  at_low = test ∙ ap₂ (λ (y : ℤ) (n : ℕ). at_least y (low_of n)) is low
 
   -- where it fails, the flow is not allowed
   pub below_low : b ≡ false → false ≡ allowed (flow_at a y i)
@@ -157,9 +156,9 @@ module _ (a : List ℕ) (y : List ℤ) (i : ℕ) {x : ℤ} {n : ℕ} {b : Bool} 
       (ap (λ (c : Bool). c && at_most (get_or y i (pos 0)) (high_of (number a i high_at))) (sym at_low ∙ t))
 
   -- where it passes, the test of the high limit decides
-  pub above_low : b ≡ true → {x : ℤ} {n : ℕ} {r : Bool} → x ≡ get_or y i (pos 0) → Wide n (number a i high_at)
+  pub above_low : b ≡ true → {x : ℤ} {n : ℕ} {r : Bool} → x ≡ get_or y i (pos 0) → n ≡ number a i high_at
       → r ≡ at_most x (high_of n)
       → r ≡ allowed (flow_at a y i)
   above_low t same high e =
-      e ∙ ap₂ (λ (y : ℤ) (n : ℕ). at_most y (high_of n)) same high.is
+      e ∙ ap₂ (λ (y : ℤ) (n : ℕ). at_most y (high_of n)) same high
       ∙ sym (ap (λ (c : Bool). c && at_most (get_or y i (pos 0)) (high_of (number a i high_at))) (sym at_low ∙ t))

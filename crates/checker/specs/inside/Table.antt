@@ -1,16 +1,10 @@
 -- Packed arcs that the loops can read, and the decision that they give.
-use Rattle.std.specs.Prelude.{ℕ, ◌+◌, ◌*◌, ◌≤◌, ◌<◌, ◌≡◌, Bool, List, ℤ, length, get_or}
+use Rattle.std.specs.Prelude.{ℕ, ◌+◌, ◌*◌, ◌≤◌, ◌<◌, Bool, List, ℤ, length, get_or}
 use Rattle.network.specs.Network.{integers}
 use Rattle.network.specs.Flows.{certifies}
 use Rattle.network.specs.Packed.{kink_at, stride, kink_zero, network_of}
 use Rattle.arcs.specs.Limits.{max_arcs}
-use Rattle.leb128.specs.Words.{u32_most}
 use Rattle.arcs.specs.declared.Counts.{Counts}
-
--- r is x, a number of 32 bits
-pub record Wide (r x : ℕ) : Type 0 where
-  pub is : r ≡ x
-  pub fits : r ≤ u32_most
 
 -- arc i is there, and its kink is a small number
 pub record HasArc (a : List ℕ) (i : ℕ) : Type 0 where

@@ -1,5 +1,4 @@
 -- A flow that is counted at the two ends of its arc: one deficit grows, the other shrinks.
-use Rattle.network.specs.laws.SumsTo.{at_set}
 use Rattle.network.specs.Net.{at}
 use Rattle.circulation.specs.inside.Slackness.{pick}
 use Rattle.network.specs.Nodes.{deficits, node_stride}
@@ -7,7 +6,6 @@ use Rattle.circulation.specs.inside.Stores.{Stored, Apart}
 use mathlib.Core.Path.{◌≡◌, sym, ap, ◌∙◌}
 use mathlib.Core.List.{List}
 use Prim.Native.Nat.{ℕ, ◌+◌, ◌-◌, ◌/◌, ◌≤◌, ◌<◌}
-use mathlib.Core.Logic.{⊎_elim}
 use native.Mathlib.Decide.{ℕ_discrete}
 use native.Mathlib.Omega.{arith}
 use lib.ListN.{length, set, length-set}
@@ -77,15 +75,6 @@ charged e h t a h_in t_in enough v = go (ℕ_discrete v t) (ℕ_discrete v h)
 module _ (nodes one new : List ℕ) (t h a more less : ℕ) (t_in : t < length nodes / node_stride) (h_in : h < length nodes / node_stride)
     (enough : a ≤ at (deficits nodes) h)
     (more-is : more ≡ at (deficits nodes) t + a) (first : Stored 1 t more nodes one) where
-  -- after the first store the second has enough
-  pub charge_enough : (a ≤ at (deficits one) h) × ((top : ℕ) → more < top → at (deficits nodes) h < top → at (deficits one) h < top)
-  charge_enough = (
-    rw (first.same, more-is) (stays_high (deficits nodes) t h a (omega (arith, column_length 1 nodes)) enough),
-    λ top m e. ⊎_elim (λ c. omega (arith, c.1, ap (λ (l : List ℕ). at l h) first.same))
-        (λ c. omega (arith, c.1, ap (λ (l : List ℕ). at l h) first.same))
-        (at_set (deficits nodes) t more h (omega (arith, column_length 1 nodes))),
-  )
-
   -- both stores
   pub charge_both : less ≡ at (deficits one) h - a → Stored 1 h less one new
       → ((v : ℕ) → at (deficits new) v + pick h v a ≡ at (deficits nodes) v + pick t v a) × Apart 1 nodes new

@@ -4,7 +4,7 @@ use Rattle.network.specs.Net.{at, Net, arcs, tail, head}
 use Rattle.network.specs.Sums.{sum_to}
 use Rattle.circulation.specs.inside.Slackness.{pick, flow, inflow, outflow, Countable}
 use Rattle.network.specs.Nodes.{deficit_zero}
-use mathlib.Core.Path.{◌≡◌, refl, subst, ◌∙◌}
+use mathlib.Core.Path.{◌≡◌, refl, ◌∙◌}
 use mathlib.Core.List.{List}
 use Prim.Native.Nat.{ℕ, ◌+◌, ◌-◌, ◌≤◌, ◌<◌}
 use native.Mathlib.Numerals.{add-one}
@@ -101,10 +101,3 @@ module _ {N : Net} {n : ℕ} {x : List ℕ} where
         flow_suc i (head N) (λ k. flow_zero) v,
       );
     }
-
-  -- all are
-  pub count_all : {e : List ℕ} {i : ℕ} → Counting N n x e i → arcs N ≤ i → (v : ℕ) → v < n
-      → at e v + inflow N (arcs N) (at x) v ≡ deficit_zero + outflow N (arcs N) (at x) v
-  count_all {e} {i} c past v v_in =
-      let same : i ≡ arcs N = omega (arith, c.i_in) in
-      subst (λ (k : ℕ). at e v + inflow N k (at x) v ≡ deficit_zero + outflow N k (at x) v) same (c.sofar v v_in)

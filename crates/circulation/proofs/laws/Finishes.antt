@@ -1,70 +1,17 @@
--- What the last step takes and leaves: no node is far left of ground, so each potential relative to ground's can be stored.
-use Rattle.network.specs.Net.{at, Net, head}
-use Rattle.network.specs.Packed.{kink_zero}
+-- What the last step leaves: each potential relative to ground's, and 0 in the other numbers.
+use Rattle.network.specs.Net.{at}
 use Rattle.circulation.specs.laws.Columns.{column_length}
 use Rattle.network.specs.Nodes.{column, potentials, size, node_stride, potential_zero}
-use Rattle.network.specs.WellFormed.{WellFormed}
-use Rattle.circulation.specs.Input.{Feasible, Hangs, Rooted}
 use Rattle.circulation.specs.inside.Stores.{Stored, Apart}
-use Rattle.circulation.specs.inside.Steps.{Flooded}
-use Rattle.circulation.specs.inside.Finish.{ground_of, Grounded, Settled, Zeroed}
-use Rattle.circulation.proofs.laws.Floods.{slack_feasible}
-use mathlib.Core.Path.{◌≡◌, refl, ap, ◌∙◌}
-use mathlib.Core.Logic.{⊎_elim}
+use Rattle.circulation.specs.inside.Finish.{ground_of, Zeroed}
+use mathlib.Core.Path.{◌≡◌, ap, ◌∙◌}
 use mathlib.Core.List.{List}
-use Prim.Native.Nat.{ℕ, zero, suc, ◌+◌, ◌-◌, ◌*◌, ◌≤◌, ◌<◌}
+use Prim.Native.Nat.{ℕ, ◌+◌, ◌≤◌, ◌<◌}
 use native.Mathlib.Decide.{ℕ_discrete}
 use native.Mathlib.Omega.{arith}
-use borrow.Author.Count.{below_none, below_more}
+use borrow.Author.Count.{below_more}
 use lib.ListN.{length}
 use lib.Seq.{get_or-set_same, get_or-set_other}
-
-module _ (N : Net) (n : ℕ) (p : ℕ → ℕ) (wf : WellFormed N n) (rooted : Rooted N n) (met : Feasible N p) where
-  -- a node hangs on ground by at most as many arcs as its number and one, each 2^16 long at most
-  near_to : (k v : ℕ) → v < k → v < n → p (n - 1) ≤ p v + kink_zero * (v + 1)
-  near_to zero v l w = absurd (omega arith)
-  near_to (suc k) v l w = elim (ℕ_discrete v (n - 1)) [
-    | yes e ↦ omega (arith, ap p e)
-    | no ne ↦ step (rooted.hangs v (omega arith)) (λ u b. near_to k u (omega arith) (omega arith))
-  ]
-    where
-      step : Hangs N (n - 1) v → ((u : ℕ) → u < v → p (n - 1) ≤ p u + kink_zero * (u + 1)) → p (n - 1) ≤ p v + kink_zero * (v + 1)
-      step h before = ⊎_elim
-          (λ c. omega (
-            arith,
-            ap p c,
-            ap p h.by.from,
-            met.not_right h.arc h.arc_in h.by.hard,
-            (wf.arc_in h.arc h.arc_in).kink_high,
-          ))
-          (λ c. omega (
-            arith,
-            c,
-            before (head N h.arc) c,
-            ap p h.by.from,
-            met.not_right h.arc h.arc_in h.by.hard,
-            (wf.arc_in h.arc h.arc_in).kink_high,
-          ))
-          h.by.to
-
-  -- no node is more than 2^28 left of ground
-  pub near_ground : (v : ℕ) → v < n → p (n - 1) ≤ p v + potential_zero
-  near_ground v l = omega (arith, near_to (suc v) v (omega arith) l, wf.nodes)
-
--- what the last search leaves can be stored relative to ground
-pub flooded_grounded : {N : Net} {n : ℕ} {x : List ℕ} (nodes : List ℕ) → size nodes ≡ n → WellFormed N n → Rooted N n
-    → Flooded N n x nodes → Grounded nodes
-flooded_grounded {N} {n} {x} nodes e wf rooted f = record {
-  some = omega (arith, wf.some);
-  few = omega (arith, wf.nodes);
-  small = f.grown.ready.p_in;
-  near =
-      λ v l. omega (
-        arith,
-        ap (λ (k : ℕ). at (potentials nodes) (k - 1)) e,
-        near_ground N n (at (potentials nodes)) wf rooted (slack_feasible f.grown.slack) v (omega arith),
-      );
-}
 
 -- the number stored
 pub stored_here : {k v a : ℕ} {old new : List ℕ} → Stored k v a old new → v < size old → at (column k new) v ≡ a
@@ -84,10 +31,6 @@ pub record Settling (nodes₀ nodes : List ℕ) (v : ℕ) : Type 0 where
   pub todo : (u : ℕ) → v ≤ u → at (potentials nodes) u ≡ at (potentials nodes₀) u
 
 module _ {nodes₀ : List ℕ} where
-  -- none is at first
-  pub settle_start : Settling nodes₀ nodes₀ 0
-  settle_start = record { v_in = omega arith; length_same = refl; done = below_none _; todo = λ u l. refl }
-
   -- one more is
   pub settle_next : {nodes : List ℕ} {v a : ℕ} (new : List ℕ) → Settling nodes₀ nodes v → v < size nodes₀
       → Stored 0 v a nodes new → a + ground_of nodes₀ ≡ at (potentials nodes₀) v + potential_zero
@@ -101,14 +44,6 @@ module _ {nodes₀ : List ℕ} where
     todo = λ u past. stored_there u s (λ same. omega arith) ∙ m.todo u (omega arith);
   }
 
-  -- all are at the end
-  pub settle_end : {nodes : List ℕ} {v : ℕ} → Settling nodes₀ nodes v → size nodes₀ ≤ v → Settled nodes₀ nodes
-  settle_end m past = record { relative = λ u l. m.done u (omega arith) }
-
--- no number is 0 yet
-pub zeroed_start : (nodes : List ℕ) → Zeroed 1 nodes
-zeroed_start nodes = record { zero = λ j v some few. absurd (omega arith) }
-
 -- one more number of every node is
 pub zeroed_next : {k : ℕ} {nodes new : List ℕ} → k < node_stride → Zeroed k nodes → ((v : ℕ) → at (column k new) v ≡ 0)
     → Apart k nodes new → Zeroed (k + 1) new
@@ -117,7 +52,3 @@ zeroed_next {k} {nodes} {new} k-in z here apart = record { zero = λ j v some fe
     go : (j v : ℕ) → 0 < j → j < k + 1 → Dec (j ≡ k) → at (column j new) v ≡ 0
     go j v some few (yes e) = ap (λ (i : ℕ). at (column i new) v) e ∙ here v
     go j v some few (no ne) = ap (λ (o : List ℕ). at o v) (apart.others j (omega arith) ne) ∙ z.zero j v some (omega arith)
-
--- the same potentials are as settled
-pub settled_same : {old mid new : List ℕ} → Settled old mid → potentials new ≡ potentials mid → Settled old new
-settled_same {old} {mid} {new} s e = record { relative = λ v l. ap (λ (p : List ℕ). at p v + ground_of old) e ∙ s.relative v l }

@@ -4,19 +4,19 @@ use Rattle.circulation.specs.inside.Search.{lift, lifted, Moved}
 use Rattle.circulation.specs.inside.Slackness.{Small}
 use Rattle.network.specs.Nodes.{potentials, orders, node_stride}
 use Rattle.circulation.specs.inside.Stores.{Stored, Apart}
-use mathlib.Core.Path.{◌≡◌, refl, ap, ◌∙◌}
+use mathlib.Core.Path.{◌≡◌, ap, ◌∙◌}
 use mathlib.Core.Logic.{◌⊎◌, inl, inr, ⊎_elim}
 use mathlib.Core.List.{List}
 use Prim.Native.Nat.{ℕ, ◌+◌, ◌/◌, ◌≤◌, ◌<◌}
 use native.Mathlib.Nat.{le_refl}
 use native.Mathlib.Decide.{ℕ_discrete, dec_lt}
 use native.Mathlib.Omega.{arith}
-use borrow.Author.Count.{below_none, below_more}
+use borrow.Author.Count.{below_more}
 use borrow.Author.Tests.{eq-eqb, ne_eqb}
 use lib.ListN.{length}
 use lib.Seq.{get_or-set_same, get_or-set_other}
 use Rattle.circulation.specs.laws.Columns.{column_length}
-use Rattle.circulation.proofs.laws.Columns.{apart_start, apart_next}
+use Rattle.circulation.proofs.laws.Columns.{apart_next}
 use Rattle.circulation.specs.Limits.{potential_limit}
 
 -- a reached node rises
@@ -49,18 +49,7 @@ pub orders_kept : {old new : List ℕ} → Apart 0 old new → orders new ≡ or
 orders_kept a = a.others 2 (omega arith) (λ e. omega arith)
 
 module _ {d : ℕ} {nodes₀ : List ℕ} where
-  -- none is moved at first
-  pub move_start : Moving d nodes₀ nodes₀ 0
-  move_start = record { v_in = omega arith; only = apart_start 0 nodes₀; moved = below_none _; rest = λ k l. refl }
-
   module _ {nodes : List ℕ} {v : ℕ} (m : Moving d nodes₀ nodes v) (l : v < length nodes₀ / node_stride) where
-    -- the next one may move
-    pub move_fits : ((u : ℕ) → u < length nodes₀ / node_stride → 0 < at (orders nodes₀) u → at (potentials nodes₀) u + d ≤ potential_limit)
-        → 0 < at (orders nodes) v → at (potentials nodes) v + d ≤ potential_limit
-    move_fits fits r =
-        omega
-        (arith, fits v l (omega (arith, ap (λ (o : List ℕ). at o v) (orders_kept m.only))), m.rest v (le_refl _))
-
     -- one more is moved
     pub move_next : (new : List ℕ) → Stored 0 v (lift (at (orders nodes) v) (at (potentials nodes) v) d) nodes new
         → Moving d nodes₀ new (v + 1)

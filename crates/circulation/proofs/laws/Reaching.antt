@@ -1,48 +1,18 @@
 -- The residual over an arc, and a node more that is reached, from what the calls answer.
-use Rattle.network.specs.Net.{at, Net, arcs, tail, head, low, high}
-use Rattle.circulation.specs.Input.{Limited}
+use Rattle.network.specs.Net.{at, Net, arcs, tail, head}
 use Rattle.network.specs.Nodes.{potentials, orders, parents, residuals, size, node_stride}
 use Rattle.circulation.specs.inside.Stores.{Apart, Reaches}
 use Rattle.circulation.specs.inside.Search.{ResidualOver, Moved, step}
 use Rattle.circulation.specs.inside.Steps.{Nearest, GrownAt, Extends, Extended}
 use mathlib.Core.Path.{◌≡◌, sym, subst, ap, ◌∙◌}
 use mathlib.Core.List.{List}
-use Prim.Native.Nat.{ℕ, ◌+◌, ◌-◌, ◌/◌, ◌≤◌, ◌<◌}
-use native.Mathlib.Decide.{ℕ_discrete}
+use Prim.Native.Nat.{ℕ, ◌+◌, ◌/◌, ◌<◌}
 use native.Mathlib.Omega.{arith}
 use lib.ListN.{length, set}
 use lib.Seq.{get_or-set_other}
 use Rattle.circulation.specs.laws.Columns.{column_length}
 use Rattle.circulation.proofs.laws.Trees.{extends}
-use Rattle.network.specs.Packed.{high_none}
 use Rattle.network.specs.Limits.{most_nodes}
-
--- a high limit is at most 2^29
-pub high_top : {N : Net} {i : ℕ} → Limited N → i < arcs N → high N i ≤ high_none
-high_top {N} {i} limited l = elim (ℕ_discrete (high N i) high_none) [
-  | yes e ↦ omega arith
-  | no ne ↦ omega (arith, (limited.each i l).high_in.soft ne)
-]
-
-module _ {N : Net} {x residual : ℕ → ℕ} {i v a b r : ℕ} (l : (r ≤ a) × (r ≤ b) × (0 < a → 0 < b → 0 < r)) where
-  -- the residual over an arc whose tail is v
-  pub residual_up : tail N i ≡ v → a ≡ high N i - x i → b ≡ residual (head N i) → ResidualOver N x residual i v r
-  residual_up is ea eb = record {
-    up = λ same more some. (l.2 (omega arith) (omega arith), omega (arith, l.0, l.2 (omega arith) (omega arith)), omega (arith, l.1));
-    down = λ ne. absurd (ne is);
-  }
-
-  -- over an arc whose head is v
-  pub residual_down : (tail N i ≡ v → ⊥) → a ≡ x i - low N i → b ≡ residual (tail N i) → ResidualOver N x residual i v r
-  residual_down ne ea eb = record {
-    up = λ same. absurd (ne same);
-    down = λ other more some. (
-      l.2 (omega arith) (omega arith),
-      omega (arith, l.0, l.2 (omega arith) (omega arith)),
-      omega
-          (arith, l.1),
-    );
-  }
 
 module _ {N : Net} {s count : ℕ} {x nodes : List ℕ} (g : GrownAt N s count x nodes) (i d : ℕ)
     (near : Nearest N (arcs N) (at (potentials nodes)) (at x) (at (orders nodes)) i) (is-step : d ≡ step N (at (potentials nodes)) i)

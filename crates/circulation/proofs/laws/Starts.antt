@@ -3,31 +3,21 @@ use Rattle.network.specs.laws.SumsTo.{sum_to_le, sum_to_add, sum_to_bound}
 use Rattle.network.specs.Net.{at, Net, net, arcs, tail, head, low, high, asks, stands}
 use Rattle.circulation.specs.inside.Slackness.{flow, inflow, outflow, Slack, FilledAt}
 use Rattle.network.specs.WellFormed.{WellFormed}
-use Rattle.circulation.specs.Input.{LowIn, HighIn, LimitsIn, Limited, Feasible, Valid}
+use Rattle.circulation.specs.Input.{LowIn, HighIn, Limited, Feasible, Valid}
 use Rattle.network.specs.Nodes.{potentials, deficits, node_stride, deficit_zero}
 use Rattle.circulation.specs.inside.Stores.{Apart}
 use Rattle.circulation.specs.inside.Search.{Deficits, total_deficit, State}
 use mathlib.Core.Path.{◌≡◌, refl, sym, subst}
 use mathlib.Core.List.{List}
 use Prim.Native.Nat.{ℕ, ◌+◌, ◌-◌, ◌/◌, ◌≤◌, ◌<◌}
-use native.Mathlib.Decide.{ℕ_discrete, dec_lt}
+use native.Mathlib.Decide.{dec_lt}
 use native.Mathlib.Omega.{arith}
-use borrow.Author.Count.{below_more}
-use lib.ListN.{length, set}
-use lib.Seq.{get_or-set_same, get_or-set_other}
+use lib.ListN.{length}
 use Rattle.circulation.specs.laws.Columns.{column_length}
 use Rattle.circulation.proofs.laws.Flows.{flow_total}
-use Rattle.network.specs.Packed.{high_none, flow_zero}
+use Rattle.network.specs.Packed.{flow_zero}
 use Rattle.circulation.specs.Limits.{low_least, high_most}
 use Rattle.circulation.proofs.laws.Counts.{flow_near}
-
--- a list whose first i elements have P, one more of which is stored
-pub store_more : (P : ℕ → ℕ → Type 0) (x : List ℕ) (i a : ℕ) → i < length x → ((k : ℕ) → k < i → P k (at x k)) → P i a
-    → (k : ℕ) → k < i + 1 → P k (at (set x i a) k)
-store_more P x i a l done here = below_more _ i (λ k below. subst⁻ k below) (subst (P i) (sym (get_or-set_same x i a 0 l)) here)
-  where
-    subst⁻ : (k : ℕ) → k < i → P k (at (set x i a) k)
-    subst⁻ k below = subst (P k) (sym (get_or-set_other x i k a 0 (omega arith))) (done k below)
 
 -- the first flows fit the potentials
 module _ {N : Net} {n : ℕ} (p x : ℕ → ℕ) (wf : WellFormed N n) (limited : Limited N) (met : Feasible N p)
@@ -114,17 +104,6 @@ first_state {N} {n} {p} x e v p_size x_size e_size filled is-deficit =
       spare_high = rw p_size (λ i l hard. omega (arith, few, (first_near (at p) (at x) v.wf v.limited v.feasible filled i l).1));
       spare_low = rw p_size (λ i l hard. omega (arith, few, (first_near (at p) (at x) v.wf v.limited v.feasible filled i l).0));
     }
-
--- a flow to start with is at most 2 ^ 29
-pub filled_top : (N : Net) (p : ℕ → ℕ) (i y : ℕ) → LimitsIn N i → FilledAt N p i y → y ≤ high_none
-filled_top N p i y a f =
-    go (dec_lt (stands N p i) (asks N p i)) (dec_lt (asks N p i) (stands N p i)) (ℕ_discrete (high N i) high_none)
-  where
-    go : Dec (stands N p i < asks N p i) → Dec (asks N p i < stands N p i) → Dec (high N i ≡ high_none) → y ≤ high_none
-    go (yes less) b h = omega (arith, f.left less, a.low_in.top)
-    go (no nl) (yes more) (yes h) = omega (arith, f.right more)
-    go (no nl) (yes more) (no ne) = omega (arith, f.right more, a.high_in.soft ne)
-    go (no nl) (no nr) h = omega (arith, f.on (omega arith))
 
 -- the state after the first flows are stored and the deficits counted
 pub run_start : (list x₀ x nodes new : List ℕ) → Valid (net list (length x₀)) (length nodes / node_stride) (potentials nodes)

@@ -4,8 +4,8 @@ use Rattle.network.specs.laws.SumsTo.{at_set}
 use Rattle.network.specs.Net.{at, Net, arcs, tail, head, low, high, stands, asks}
 use Rattle.circulation.specs.inside.Slackness.{pick, flow, inflow, outflow, Slack}
 use Rattle.network.specs.WellFormed.{WellFormed}
-use Rattle.circulation.specs.inside.Search.{total_deficit, FromHead, FromTail, Link, Reached, Amount, Pushable, Pushed, Walked}
-use mathlib.Core.Path.{◌≡◌, refl, subst, ap, ◌∙◌}
+use Rattle.circulation.specs.inside.Search.{total_deficit, FromHead, FromTail, Link, Reached, Amount, Pushed, Walked}
+use mathlib.Core.Path.{◌≡◌, subst, ap, ◌∙◌}
 use mathlib.Core.Logic.{◌⊎◌, ⊎_elim}
 use mathlib.Core.List.{List}
 use Prim.Native.Nat.{ℕ, ◌+◌, ◌-◌, ◌≤◌, ◌<◌}
@@ -16,10 +16,8 @@ use lib.ListN.{length, set, length-set}
 use lib.Seq.{get_or-set_other}
 use Rattle.circulation.proofs.laws.Flows.{flow_set}
 use Rattle.circulation.specs.laws.Picks.{pick_yes, pick_no}
-use Rattle.network.specs.Packed.{high_none}
 use Rattle.network.specs.Nodes.{deficit_zero}
 use Rattle.circulation.proofs.laws.Amounts.{amount_most}
-use Rattle.circulation.specs.laws.FlowsBounded.{x_top}
 
 -- a sum, picked
 pick_add : (u v a b : ℕ) → pick u v (a + b) ≡ pick u v a + pick u v b
@@ -52,22 +50,6 @@ pub record Walking (N : Net) (s t d : ℕ) (p x₀ e order parent residual x : L
       → at e y + inflow N (arcs N) (at x) y + pick t y d ≡ deficit_zero + outflow N (arcs N) (at x) y + pick v y d
 
 module _ {N : Net} {s t d : ℕ} {p x₀ e order parent residual : List ℕ} where
-  -- the walk starts at t
-  pub walk_start : Reached N s t p x₀ e order parent residual → Amount s t d (at e) (at residual)
-      → Walking N s t d p x₀ e order parent residual x₀ t
-  walk_start r a = record {
-    reached = r;
-    amount = a;
-    x_size = refl;
-    slack = r.state.slack;
-    steps = λ i. (omega arith, omega arith);
-    fresh = λ w w-in l ne low. refl;
-    v_in = r.t_in;
-    v_reached = r.t_reached;
-    v_residual = a.residual_fits;
-    moved = λ y y-in. omega (arith, r.state.deficits_are.each y y-in);
-  }
-
   -- the walk has come to s
   pub walked : {x : List ℕ} {v : ℕ} → Walking N s t d p x₀ e order parent residual x v → v ≡ s → Walked N s t d p e x₀ x
   walked {x} {v} w same = record {
@@ -94,28 +76,6 @@ module _ {N : Net} {s t d : ℕ} {p x₀ e order parent residual : List ℕ} whe
     -- it is an arc
     x_in : at parent v < length x
     x_in = omega (arith, link.arc_in, w.x_size, w.reached.state.x_size)
-
-    -- it can move d
-    pub pushable : Pushable N x (at parent v) v d
-    pushable = record {
-      i_arc = link.arc_in;
-      list_room = omega (arith, link.arc_in, wf.room);
-      i_x = x_in;
-      i_in = omega (arith, link.arc_in, wf.few);
-      up =
-          λ is. ⊎_elim (λ c. omega (arith, c.3, x_same, w.v_residual, high_top))
-          (λ c. absurd (omega (arith, c.2, ap (at order) is))) link.ends;
-      down =
-          λ ne. ⊎_elim (λ c. absurd (ne c.0))
-          (λ c. (omega (arith, c.3, x_same, w.v_residual), x_top w.reached.state.limited w.slack (at parent v) link.arc_in))
-          link.ends;
-    }
-      where
-        high_top : high N (at parent v) ≤ high_none
-        high_top = elim (ℕ_discrete (high N (at parent v)) high_none) [
-          | yes e ↦ omega arith
-          | no ne ↦ omega (arith, (w.reached.state.limited.each (at parent v) link.arc_in).high_in.soft ne)
-        ]
 
     -- d moved from u to v over arc i, whose flow becomes a
     module _ (u a : ℕ) (u-in : u < length p) (u-reached : 0 < at order u) (u-low : at order u < at order v)

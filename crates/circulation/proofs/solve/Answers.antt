@@ -1,18 +1,10 @@
 -- `circulation::solve` meets its contract: the whole nodes are lent, and put back before what stands behind them.
 use Rattle.network.specs.Nodes.{node_stride}
-use Rattle.network.specs.laws.TestedAnswers.{tested_yes, tested_no}
+use Rattle.network.specs.laws.TestedAnswers.{tested_yes}
 use Rattle.circulation.proofs.laws.Parts.{valid_front, whole_back}
-use mathlib.Core.Path.{refl, ap}
+use mathlib.Core.Path.{ap}
 use Prim.Native.Nat.{ℕ, ◌*◌}
 use Rattle.circulation.proofs.solve.Goals as goal
-
-pub returns-then-not-valid : goal.returns-then-not-valid
-returns-then-not-valid c = (
-  (λ v. tested_no c.valid.result c.valid.ensures
-      c.if-not-valid.true v),
-  refl,
-  refl,
-)
 
 pub whole-requires : goal.whole-requires
 whole-requires c =

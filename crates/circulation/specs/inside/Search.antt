@@ -5,8 +5,8 @@ use Rattle.network.specs.Sums.{sum_to}
 use Rattle.circulation.specs.inside.Slackness.{pick, inflow, outflow, Ready, Slack, Small, Low}
 use Rattle.network.specs.WellFormed.{WellFormed}
 use Rattle.circulation.specs.Input.{Limited}
-use Rattle.std.specs.Prelude.{◌≡◌, ◌⊎◌, List, cond, ℕ, ◌+◌, ◌-◌, ◌*◌, ◌≤◌, ◌<◌, eqb, length, set}
-use Rattle.network.specs.Packed.{stride, word_limit, high_none, kink_zero, flow_zero}
+use Rattle.std.specs.Prelude.{Option, Some, None, ◌≡◌, ◌⊎◌, List, cond, ℕ, ◌+◌, ◌-◌, ◌*◌, ◌≤◌, ◌<◌, eqb, length, set}
+use Rattle.network.specs.Packed.{stride, high_none, kink_zero, flow_zero}
 use Rattle.network.specs.Nodes.{deficit_zero}
 use Rattle.network.specs.Limits.{most_arcs}
 use Rattle.circulation.specs.Limits.{rested_limit}
@@ -41,14 +41,10 @@ CrossesBy a b h t x l c = Enters a b h t x l c ⊎ Leaves a b h t x l c
 abbrev pub apart : ℕ → ℕ → ℕ
 apart a b = (b - a) + (a - b)
 
--- a step that no arc has
-abbrev pub never : ℕ
-never = word_limit
-
--- r is the step of an arc that crosses, and never for any other
-pub record StepBy (stands asks of-head of-tail x low high r : ℕ) : Type 0 where
-  pub some : r < never → CrossesBy stands asks of-head of-tail x low high × (r ≡ apart stands asks)
-  pub least : CrossesBy stands asks of-head of-tail x low high → (r ≡ apart stands asks) × (r < never)
+-- the step of an arc that crosses; none of any other
+abbrev pub StepBy : (stands asks of-head of-tail x low high : ℕ) → Option ℕ → Type 0
+StepBy stands asks of-head of-tail x low high (Some r) = CrossesBy stands asks of-head of-tail x low high × (r ≡ apart stands asks)
+StepBy stands asks of-head of-tail x low high None = CrossesBy stands asks of-head of-tail x low high → ⊥
 
 -- arc i crosses
 abbrev pub Crosses : Net → (ℕ → ℕ) → (ℕ → ℕ) → (ℕ → ℕ) → ℕ → Type 0
@@ -58,14 +54,14 @@ Crosses N p x order i = CrossesBy (stands N p i) (asks N p i) (order (head N i))
 abbrev pub step : Net → (ℕ → ℕ) → ℕ → ℕ
 step N p i = apart (stands N p i) (asks N p i)
 
--- r is the step of arc i
-abbrev pub StepAt : Net → (ℕ → ℕ) → (ℕ → ℕ) → (ℕ → ℕ) → ℕ → ℕ → Type 0
+-- r is the step of arc i, if it crosses
+abbrev pub StepAt : Net → (ℕ → ℕ) → (ℕ → ℕ) → (ℕ → ℕ) → ℕ → Option ℕ → Type 0
 StepAt N p x order i r = StepBy (stands N p i) (asks N p i) (order (head N i)) (order (tail N i)) (x i) (low N i) (high N i) r
 
--- from to's number to from's number is how far, and less < more: the step of an arc that crosses
-pub record Distance (from to less more r : ℕ) : Type 0 where
-  pub some : r < never → (from ≤ to) × (less < more) × (r ≡ to - from)
-  pub least : from ≤ to → less < more → (r ≡ to - from) × (r < never)
+-- from to's number to from's number is how far, if from is not past to and less < more: the step of an arc that crosses
+abbrev pub Distance : (from to less more : ℕ) → Option ℕ → Type 0
+Distance from to less more (Some r) = (from ≤ to) × (less < more) × (r ≡ to - from)
+Distance from to less more None = from ≤ to → less < more → ⊥
 
 -- arc i leads to v from its head, which is before v; v's residual is at most the head's and what the arc can take
 abbrev pub FromHead : Net → (x order residual : ℕ → ℕ) → (v i : ℕ) → Type 0

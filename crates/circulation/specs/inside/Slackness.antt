@@ -64,3 +64,7 @@ pub record Filled (stands asks low high x : ℕ) : Type 0 where
 -- the flow that arc i starts with
 abbrev pub FilledAt : Net → (ℕ → ℕ) → ℕ → ℕ → Type 0
 FilledAt N p i x = Filled (stands N p i) (asks N p i) (low N i) (high N i) x
+
+-- arc i is on no forbidden side
+abbrev pub Met : Net → (ℕ → ℕ) → ℕ → Type 0
+Met N p i = (HardHigh N i → stands N p i ≤ asks N p i) × (HardLow N i → asks N p i ≤ stands N p i)

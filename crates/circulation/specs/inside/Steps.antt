@@ -4,18 +4,20 @@ use Rattle.circulation.specs.Input.{HangsBy}
 use Rattle.circulation.specs.inside.Slackness.{Balanced}
 use Rattle.network.specs.Nodes.{size, potentials, deficits, orders, parents, residuals, deficit_zero}
 use Rattle.circulation.specs.inside.Search.{Crosses, Crossing, step, Grown, Reached, State, total_deficit}
-use Rattle.circulation.specs.declared.Found.{Found}
-use Rattle.std.specs.Prelude.{◌≡◌, List, ℕ, ◌+◌, ◌-◌, ◌≤◌, ◌<◌, length, set}
-use Rattle.circulation.specs.declared.Found.TheVariants.{At, Nothing}
+use Rattle.std.specs.Prelude.{Option, Some, None, ◌≡◌, List, ℕ, ◌+◌, ◌-◌, ◌≤◌, ◌<◌, length, set}
 
 -- a node with a deficit
-abbrev pub Source : (n : ℕ) (e : ℕ → ℕ) → Found → Type 0
-Source n e (At s) = (s < n) × (deficit_zero < e s)
-Source n e Nothing = (v : ℕ) → v < n → e v ≤ deficit_zero
+abbrev pub Source : (n : ℕ) (e : ℕ → ℕ) → Option ℕ → Type 0
+Source n e (Some s) = (s < n) × (deficit_zero < e s)
+Source n e None = (v : ℕ) → v < n → e v ≤ deficit_zero
 
 -- a crossing arc of least step
 abbrev pub Nearest : (N : Net) (m : ℕ) (p x order : ℕ → ℕ) (i : ℕ) → Type 0
 Nearest N m p x order i = (i < m) × Crosses N p x order i × ((j : ℕ) → j < m → Crosses N p x order j → step N p i ≤ step N p j)
+
+-- such an arc, and its step
+abbrev pub NearestBy : (N : Net) (m : ℕ) (p x order : ℕ → ℕ) → ℕ × ℕ → Type 0
+NearestBy N m p x order b = Nearest N m p x order b.0 × (b.1 ≡ step N p b.0)
 
 -- the node v is reached too, and the potentials p became p', where nodes that were not reached have not risen
 pub record Extends (N : Net) (s count : ℕ) (x p order p' order' parent' residual' : List ℕ) (v : ℕ) : Type 0 where
@@ -71,7 +73,7 @@ pub record Flooded (N : Net) (n : ℕ) (x nodes : List ℕ) : Type 0 where
   pub grown : GrownAt N (n - 1) n x nodes
   pub whole : (v : ℕ) → v < n → 0 < at (orders nodes) v
 
--- what hanger answers: the first arc from i on by which v hangs, or m
-pub record Hanger (list : List ℕ) (v g i m r : ℕ) : Type 0 where
-  pub some : r < m → HangsBy list g v r
-  pub none : m ≤ r → (k : ℕ) → i ≤ k → k < m → HangsBy list g v k → ⊥
+-- what hanger answers: an arc from i on, and before m, by which v hangs, or none if there is none
+abbrev pub Hanger : (list : List ℕ) (v g i m : ℕ) → Option ℕ → Type 0
+Hanger list v g i m (Some r) = (r < m) × HangsBy list g v r
+Hanger list v g i m None = (k : ℕ) → i ≤ k → k < m → HangsBy list g v k → ⊥

@@ -1,19 +1,18 @@
 -- The constraints of one arc, and of all arcs in one pass: each arc takes `Passing` one further, in whichever direction.
 use Rattle.network.specs.Net.{Net, arcs, tail, head, kink, low, high}
 use Rattle.difference.specs.inside.Constraints.{MetHigh, MetLow, Met, AllMet, Ready, Relaxing}
-use Rattle.difference.specs.inside.Steps.{RelaxMeans, Stepped, join}
-use Rattle.difference.specs.declared.Found.{Found}
-use mathlib.Core.Path.{◌≡◌, refl, sym, ◌∙◌}
+use Rattle.difference.specs.inside.Steps.{RelaxMeans, Stepped}
+use Rattle.difference.specs.declared.Stuck.{Stuck}
+use Rattle.std.specs.Prelude.{Result, Ok, ◌||◌, true, false, cond}
+use mathlib.Core.Path.{◌≡◌, sym, ◌∙◌}
 use mathlib.Core.Bool.{Bool}
 use lib.Dec.{eqb}
 use borrow.Author.Tests.{eq-eqb, eqb-true}
-use mathlib.Core.Logic.{inl}
 use mathlib.Core.List.{List}
-use Prim.Native.Nat.{ℕ, ◌≤◌, ◌<◌}
+use Prim.Native.Nat.{ℕ, ◌+◌, ◌-◌, ◌≤◌, ◌<◌}
 use native.Mathlib.Omega.{arith}
 use native.Mathlib.Decide.{ℕ_discrete}
-use Rattle.difference.specs.declared.Found.TheVariants.{Same, Stuck}
-use Rattle.difference.proofs.laws.Steps.{Monotone, relaxed, nothing, stepped_map, stuck_any, not_stuck, joined}
+use Rattle.difference.proofs.laws.Steps.{Monotone, relaxed, nothing, stepped_map, joined}
 use Rattle.network.specs.Packed.{kink_zero, high_none, low_none}
 
 module _ {N : Net} {v : List ℕ} {i : ℕ} (r : Ready N v) (l : i < arcs N) {t h k : ℕ} (et : t ≡ tail N i) (eh : h ≡ head N i) (ek : k ≡ kink N i) where
@@ -42,16 +41,18 @@ module _ {N : Net} {v : List ℕ} {i : ℕ} (r : Ready N v) (l : i < arcs N) {t 
   }
 
   -- the constraint of an unlimited high
-  pub tail_raised : {asked : Bool} → asked ≡ eqb (high N i) high_none → (v' : List ℕ) (f : Found) → RelaxMeans asked h t kink_zero k v v' f → Stepped (MetHigh N i) N v v' f
-  tail_raised {asked} is v' f m =
-      stepped_map (λ met hard. rw (eh, et, ek) at (met (is ∙ eq-eqb _ _ hard))) f
-      (relaxed r asked tail_relaxing (λ yes q s. rw (eh, et, ek) ((s.meets i l).0 (eqb-true _ _ (sym is ∙ yes)))) v' f m)
+  pub tail_raised : {x : ℕ} → x ≡ high N i → (v' : List ℕ) (f : Result Bool Stuck) → RelaxMeans (eqb x high_none) h t kink_zero k v v' f
+      → Stepped (MetHigh N i) N v v' f
+  tail_raised {x} is v' f m =
+      stepped_map (λ met hard. rw (eh, et, ek) at (met (eq-eqb x high_none (is ∙ hard)))) f
+      (relaxed r (eqb x high_none) tail_relaxing (λ asked q s. rw (eh, et, ek) ((s.meets i l).0 (sym is ∙ eqb-true x high_none asked))) v' f m)
 
   -- the constraint of an unlimited low
-  pub head_raised : {asked : Bool} → asked ≡ eqb (low N i) low_none → (v' : List ℕ) (f : Found) → RelaxMeans asked t h k kink_zero v v' f → Stepped (MetLow N i) N v v' f
-  head_raised {asked} is v' f m =
-      stepped_map (λ met hard. rw (eh, et, ek) at (met (is ∙ eq-eqb _ _ hard))) f
-      (relaxed r asked head_relaxing (λ yes q s. rw (eh, et, ek) ((s.meets i l).1 (eqb-true _ _ (sym is ∙ yes)))) v' f m)
+  pub head_raised : {x : ℕ} → x ≡ low N i → (v' : List ℕ) (f : Result Bool Stuck) → RelaxMeans (eqb x low_none) t h k kink_zero v v' f
+      → Stepped (MetLow N i) N v v' f
+  head_raised {x} is v' f m =
+      stepped_map (λ met hard. rw (eh, et, ek) at (met (eq-eqb x low_none (is ∙ hard)))) f
+      (relaxed r (eqb x low_none) head_relaxing (λ asked q s. rw (eh, et, ek) ((s.meets i l).1 (sym is ∙ eqb-true x low_none asked))) v' f m)
 
 -- a met constraint stays met
 high_mono : (N : Net) (i : ℕ) → Monotone (MetHigh N i)
@@ -66,46 +67,42 @@ met_mono : (N : Net) (i : ℕ) → Monotone (Met N i)
 met_mono N i = record { mono = λ less more m. ((high_mono N i).mono less more m.0, (low_mono N i).mono less more m.1) }
 
 -- both constraints of an arc
-pub arc_raised : {N : Net} (i : ℕ) {v₀ v₁ v₂ : List ℕ} (r₁ r₂ r : Found) → (r₁ ≡ Stuck → ⊥) → Stepped (MetHigh N i) N v₀ v₁ r₁
-    → Stepped (MetLow N i) N v₁ v₂ r₂ → r ≡ join r₁ r₂ → Stepped (Met N i) N v₀ v₂ r
-arc_raised {N} i r₁ r₂ r goes s t e = rw e (joined (high_mono N i) (low_mono N i) r₁ r₂ goes s t)
+pub arc_raised : {N : Net} (i : ℕ) {v₀ v₁ v₂ : List ℕ} (r₁ r₂ : Bool) → Stepped (MetHigh N i) N v₀ v₁ (Ok r₁)
+    → Stepped (MetLow N i) N v₁ v₂ (Ok r₂) → Stepped (Met N i) N v₀ v₂ (Ok (r₁ || r₂))
+arc_raised {N} i r₁ r₂ s t = joined (high_mono N i) (low_mono N i) r₁ r₂ s t
 
 -- the constraints of the arcs from a on, before b
 abbrev pub Done : Net → ℕ → ℕ → (ℕ → ℕ) → (ℕ → ℕ) → Type 0
 Done N a b f g = (j : ℕ) → a ≤ j → j < b → Met N j f g
 
--- in a pass over v₀ that is not stuck: the arcs from a on and before b are done
-pub record Passing (N : Net) (a b : ℕ) (v₀ v : List ℕ) (found : Found) : Type 0 where
-  pub stepped : Stepped (Done N a b) N v₀ v found
-  pub goes : found ≡ Stuck → ⊥
-
 -- and of all arcs so far
 done_mono : (N : Net) (a b : ℕ) → Monotone (Done N a b)
 done_mono N a b = record { mono = λ less more m j from to. (met_mono N j).mono less more (m j from to) }
 
+-- in a pass over v₀, of which k arcs are done: on from the first arc, or back from the last
+pub record Passing (N : Net) (on : Bool) (k : ℕ) (v₀ v : List ℕ) (rose : Bool) : Type 0 where
+  pub stepped : Stepped (Done N (cond on 0 (arcs N - k)) (cond on k (arcs N))) N v₀ v (Ok rose)
+
 -- before the first arc
-pub start : {N : Net} {v₀ : List ℕ} → Ready N v₀ → (a : ℕ) → Passing N a a v₀ v₀ Same
-start r a = record { stepped = nothing r (λ j from to. absurd (omega arith)); goes = not_stuck Same (inl refl) }
+pub start : {N : Net} {v₀ : List ℕ} → Ready N v₀ → (on : Bool) → Passing N on 0 v₀ v₀ false
+start r true = record { stepped = nothing r (λ j from to. absurd (omega arith)) }
+start r false = record { stepped = nothing r (λ j from to. absurd (omega arith)) }
 
-module _ {N : Net} {a b : ℕ} {v₀ v v' : List ℕ} {found step found' : Found} (p : Passing N a b v₀ v found) (arc : ℕ) (s : Stepped (Met N arc) N v v' step) (e : found' ≡ join found step) where
-  -- one arc more
-  arc_more : Stepped (λ f g. Done N a b f g × Met N arc f g) N v₀ v' found'
-  arc_more = rw e (joined (done_mono N a b) (met_mono N arc) found step p.goes p.stepped s)
+module _ {N : Net} {k i : ℕ} {v₀ v v' : List ℕ} {rose step : Bool} (below : k < arcs N) (s : Stepped (Met N i) N v v' (Ok step)) where
+  -- an arc more: of the arcs that are done then, each other one was done before
+  more : {a b a' b' : ℕ} → Stepped (Done N a b) N v₀ v (Ok rose) → ((j : ℕ) → a' ≤ j → j < b' → (j ≡ i → ⊥) → (a ≤ j) × (j < b))
+      → Stepped (Done N a' b') N v₀ v' (Ok (rose || step))
+  more {a} {b} p others =
+      stepped_map
+      (λ m j from to. elim (ℕ_discrete j i) [ yes same ↦ rw same m.1 | no other ↦ m.0 j (others j from to other).0 (others j from to other).1 ])
+      (Ok (rose || step)) (joined (done_mono N a b) (met_mono N i) rose step p s)
 
-  -- the pass is stuck there
-  pub stops : found' ≡ Stuck → Stepped (AllMet N) N v₀ v' Stuck
-  stops = stuck_any arc_more
-
-  -- or it goes on: that arc is done, and the others were
-  pub goes_on : {a' b' : ℕ} → (found' ≡ Stuck → ⊥) → ((j : ℕ) → a' ≤ j → j < b' → (j ≡ arc → ⊥) → (a ≤ j) × (j < b)) → Passing N a' b' v₀ v' found'
-  goes_on goes others = record {
-    stepped =
-        stepped_map
-        (λ m j from to. elim (ℕ_discrete j arc) [ yes same ↦ rw same m.1 | no other ↦ m.0 j (others j from to other).0 (others j from to other).1 ])
-        found' arc_more;
-    goes = goes;
-  }
+  -- so one arc more is done
+  pub goes_on : (on : Bool) → Passing N on k v₀ v rose → i ≡ cond on k (arcs N - 1 - k) → Passing N on (k + 1) v₀ v' (rose || step)
+  goes_on true p place = record { stepped = more p.stepped (λ j from to other. (omega arith, omega arith)) }
+  goes_on false p place = record { stepped = more p.stepped (λ j from to other. (omega arith, omega arith)) }
 
 -- after the last arc
-pub whole : {N : Net} {a b : ℕ} {v₀ v : List ℕ} {found : Found} → Passing N a b v₀ v found → a ≤ 0 → arcs N ≤ b → Stepped (AllMet N) N v₀ v found
-whole {N} {a} {b} {v₀} {v} {found} p first last = stepped_map (λ m j l. m j (omega arith) (omega arith)) found p.stepped
+pub whole : {N : Net} (on : Bool) {v₀ v : List ℕ} {rose : Bool} → Passing N on (arcs N) v₀ v rose → Stepped (AllMet N) N v₀ v (Ok rose)
+whole true {rose = rose} p = stepped_map (λ m j l. m j (omega arith) l) (Ok rose) p.stepped
+whole false {rose = rose} p = stepped_map (λ m j l. m j (omega arith) l) (Ok rose) p.stepped

@@ -6,17 +6,18 @@ use Rattle.network.specs.Sums.{sum_to}
 use Rattle.network.specs.laws.SumsTo.{sum_to_le, sum_to_lt, sum_to_ge}
 use Rattle.network.specs.WellFormed.{WellFormed}
 use Rattle.difference.specs.inside.Constraints.{AllMet, Solution, Below, Ready, Risen, Grew, Least, None}
-use Rattle.difference.specs.inside.Steps.{Stepped, Swept, Ran}
+use Rattle.difference.specs.inside.Steps.{Stepped, Swept}
 use mathlib.Core.Path.{◌≡◌, sym, ◌∙◌}
 use mathlib.Core.Logic.{◌⊎◌, ⊎_elim}
-use mathlib.Core.Bool.{Bool, true}
+use mathlib.Core.Bool.{Bool, true, false, true≢false}
 use mathlib.Core.List.{List}
 use Prim.Native.Nat.{ℕ, zero, suc, ◌+◌, ◌-◌, ◌≤◌, ◌<◌}
 use native.Mathlib.Nat.{le_refl}
 use native.Mathlib.Decide.{ℕ_discrete, dec_lt}
 use native.Mathlib.Omega.{arith}
 use lib.ListN.{length}
-use Rattle.difference.specs.declared.Found.TheVariants.{Same, Changed, Stuck}
+use Rattle.difference.specs.declared.Stuck.{Stuck}
+use Rattle.std.specs.Prelude.{Result, Ok, Err, IsErr}
 use Rattle.difference.proofs.laws.Bounds.{bounded}
 use Rattle.difference.proofs.laws.Levels.{sum_ones, same, same_yes, same_no, same_le, same_mono, lowered, lowered_cases, lowered_meets}
 use Rattle.network.specs.Packed.{kink_zero}
@@ -164,7 +165,7 @@ module _ {N : Net} {n : ℕ} where
 
   module _ {v : List ℕ} {k : ℕ} (r : Running N n v k) (v' : List ℕ) where
     -- after a pass that raised a value
-    pub changed : Stepped (AllMet N) N v v' Changed → Running N n v' (k + 1)
+    pub changed : Stepped (AllMet N) N v v' (Ok true) → Running N n v' (k + 1)
     changed s = record {
       ready = s.risen.ready;
       size = s.risen.size ∙ r.size;
@@ -172,7 +173,7 @@ module _ {N : Net} {n : ℕ} where
     }
 
     -- after a pass that raised none
-    pub solved : Stepped (AllMet N) N v v' Same → Least N n v'
+    pub solved : Stepped (AllMet N) N v v' (Ok false) → Least N n v'
     solved s = rw (← r.size, s.told.0) (record {
       solves = met;
       least = r.ready.under;
@@ -185,13 +186,11 @@ module _ {N : Net} {n : ℕ} where
         met = record { ground = r.ready.ground; meets = rw s.told.0 at s.told.1 }
 
     -- after a pass that is stuck
-    pub stops : Stepped (AllMet N) N v v' Stuck → None N n
-    stops s = rw (← r.size) s.told
+    pub stops : {r : Result Bool Stuck} {e : Stuck} → Stepped (AllMet N) N v v' r → r ≡ Err e → (swept : Result (Unit {0}) Stuck) → IsErr swept
+        → Swept N n v' swept
+    stops s is (Ok done) failed = absurd (true≢false (sym failed))
+    stops s is (Err e) failed = rw (← r.size) (rw is at s.told)
 
   -- after as many passes as nodes
-  pub over : {v : List ℕ} {k : ℕ} → Running N n v k → length v ≤ k → None N n
-  over {v} {k} r past = rw (← r.size) (λ q s. let c = r.near q s in omega (arith, agree_le (length v) (at v) c.q, c.count))
-
--- the passes found the least solution
-pub ran_solved : {N : Net} {n : ℕ} {v : List ℕ} (r : Bool) → Swept N n v r → r ≡ true → Ran N n v true
-ran_solved r s e = rw e at s
+  pub over : {v : List ℕ} {k : ℕ} → Running N n v k → n ≤ k → None N n
+  over {v} {k} r past = rw (← r.size) (λ q s. let c = r.near q s in omega (arith, agree_le (length v) (at v) c.q, c.count, r.size))

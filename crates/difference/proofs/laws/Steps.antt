@@ -3,11 +3,12 @@
 use Rattle.network.specs.Net.{at, Net}
 use Rattle.network.specs.laws.SumsTo.{at_set}
 use Rattle.difference.specs.inside.Constraints.{Solution, Ready, Relaxing, Risen, Grew, None}
-use Rattle.difference.specs.inside.Steps.{RelaxMeans, Told, Stepped, join}
-use Rattle.difference.specs.declared.Found.{Found}
-use mathlib.Core.Path.{◌≡◌, refl, ap, ◌∙◌}
+use Rattle.difference.specs.inside.Steps.{RelaxMeans, Told, Stepped}
+use Rattle.difference.specs.declared.Stuck.{Stuck}
+use Rattle.std.specs.Prelude.{Result, Ok, Err, IsErr, ◌||◌}
+use mathlib.Core.Path.{◌≡◌, refl, sym, ap, ◌∙◌}
 use mathlib.Core.Logic.{◌⊎◌, inl, inr, ⊎_elim}
-use mathlib.Core.Bool.{Bool, true}
+use mathlib.Core.Bool.{Bool, true, false, true≢false}
 use mathlib.Core.List.{List}
 use Prim.Native.Nat.{ℕ, ◌+◌, ◌-◌, ◌≤◌, ◌<◌}
 use native.Mathlib.Nat.{le_refl}
@@ -15,9 +16,6 @@ use native.Mathlib.Decide.{ℕ_discrete}
 use native.Mathlib.Omega.{arith}
 use lib.ListN.{length, set, length-set}
 use lib.Seq.{get_or-set_same}
-use Rattle.difference.specs.declared.Found.TheVariants.{Same, Changed, Stuck}
-use denote.Enum.Declared.{tag_of}
-use Rattle.difference.specs.contracts.Found.{the_type}
 use Rattle.difference.proofs.laws.Bounds.{bounded}
 use Rattle.difference.specs.Limits.{value_limit}
 
@@ -26,7 +24,7 @@ pub risen_same : {N : Net} {v : List ℕ} → Ready N v → Risen N v v
 risen_same r = record { ready = r; size = refl; up = λ u. le_refl _ }
 
 -- a step that does nothing
-pub nothing : {M : (ℕ → ℕ) → (ℕ → ℕ) → Type 0} {N : Net} {v : List ℕ} → Ready N v → M (at v) (at v) → Stepped M N v v Same
+pub nothing : {M : (ℕ → ℕ) → (ℕ → ℕ) → Type 0} {N : Net} {v : List ℕ} → Ready N v → M (at v) (at v) → Stepped M N v v (Ok false)
 nothing r m = record { risen = risen_same r; told = (refl, m) }
 
 module _ {N : Net} {v : List ℕ} (r : Ready N v) (from to a b : ℕ) (from_in : from < length v) (to_in : to < length v)
@@ -70,17 +68,17 @@ module _ {N : Net} {v : List ℕ} (r : Ready N v) (from to a b : ℕ) (from_in :
 -- what a constraint's step tells, where it is asked of every solution
 pub relaxed : {N : Net} {v : List ℕ} (r : Ready N v) (asked : Bool) {from to a b : ℕ} (s : Relaxing v from to a b)
     → (asked ≡ true → (q : ℕ → ℕ) → Solution N (length v) q → q from + a ≤ q to + b)
-    → (v' : List ℕ) (f : Found) → RelaxMeans asked from to a b v v' f
+    → (v' : List ℕ) (f : Result Bool Stuck) → RelaxMeans asked from to a b v v' f
     → Stepped (λ f g. asked ≡ true → f from + a ≤ g to + b) N v v' f
-relaxed r asked s asks v' Same m = rw m.0 (nothing r m.1)
-relaxed {v = v} r asked {from} {to} {a} {b} s asks v' Changed m = rw m.1 (record {
+relaxed r asked s asks v' (Ok false) m = rw m.0 (nothing r m.1)
+relaxed {v = v} r asked {from} {to} {a} {b} s asks v' (Ok true) m = rw m.1 (record {
   risen = raised r from to a b s.from_in s.to_in (asks m.0) m.2 m.3 m.4;
   told = (record { node = to; node_in = s.to_in; rose = omega (arith, here) }, λ is. omega (arith, here));
 })
   where
     here : at (set v to (at v from + a - b)) to ≡ at v from + a - b
     here = get_or-set_same v to (at v from + a - b) 0 s.to_in
-relaxed r asked {from} {to} {a} {b} s asks v' Stuck m = rw m.1 (record { risen = risen_same r; told = stuck r from to a b s.from_in s.to_in (asks m.0) m.2 m.3 })
+relaxed r asked {from} {to} {a} {b} s asks v' (Err e) m = rw m.1 (record { risen = risen_same r; told = stuck r from to a b s.from_in s.to_in (asks m.0) m.2 m.3 })
 
 -- constraints that hold still where the values that force were smaller and the values that are raised greater
 pub record Monotone (M : (ℕ → ℕ) → (ℕ → ℕ) → Type 0) : Type 0 where
@@ -92,18 +90,16 @@ risen_trans s t = record { ready = t.ready; size = t.size ∙ s.size; up = λ u.
 
 -- a step over other constraints that follow
 pub stepped_map : {M M' : (ℕ → ℕ) → (ℕ → ℕ) → Type 0} {N : Net} {v₀ v : List ℕ} → (M (at v₀) (at v) → M' (at v₀) (at v))
-    → (r : Found) → Stepped M N v₀ v r → Stepped M' N v₀ v r
-stepped_map f Same s = record { risen = s.risen; told = (s.told.0, f s.told.1) }
-stepped_map f Changed s = record { risen = s.risen; told = (s.told.0, f s.told.1) }
-stepped_map f Stuck s = record { risen = s.risen; told = s.told }
+    → (r : Result Bool Stuck) → Stepped M N v₀ v r → Stepped M' N v₀ v r
+stepped_map f (Ok false) s = record { risen = s.risen; told = (s.told.0, f s.told.1) }
+stepped_map f (Ok true) s = record { risen = s.risen; told = (s.told.0, f s.told.1) }
+stepped_map f (Err e) s = record { risen = s.risen; told = s.told }
 
--- a stuck step over any other constraints
-pub stuck_any : {M M' : (ℕ → ℕ) → (ℕ → ℕ) → Type 0} {N : Net} {v₀ v : List ℕ} {r : Found} → Stepped M N v₀ v r → r ≡ Stuck → Stepped M' N v₀ v Stuck
-stuck_any s e = record { risen = s.risen; told = rw e at s.told }
-
--- a step of the first two kinds is not stuck
-pub not_stuck : (r : Found) → (tag_of the_type r ≡ 0) ⊎ (tag_of the_type r ≡ 1) → r ≡ Stuck → ⊥
-not_stuck r first_two e = ⊎_elim (λ t. omega arith) (λ t. omega arith) (rw e at first_two)
+-- a stuck step, over any other constraints, after one that is not
+pub stuck_after : {M M' : (ℕ → ℕ) → (ℕ → ℕ) → Type 0} {N : Net} {v₀ v₁ v₂ : List ℕ} {r : Result Bool Stuck} {e : Stuck} → Risen N v₀ v₁
+    → Stepped M N v₁ v₂ r → r ≡ Err e → (r' : Result Bool Stuck) → IsErr r' → Stepped M' N v₀ v₂ r'
+stuck_after s t is (Ok rose) failed = absurd (true≢false (sym failed))
+stuck_after s t is (Err e) failed = record { risen = risen_trans s t.risen; told = rw (← s.size) (rw is at t.told) }
 
 -- a value that rose in the second step
 grew_before : {N : Net} {v₀ v₁ v₂ : List ℕ} → Risen N v₀ v₁ → Grew v₁ v₂ → Grew v₀ v₂
@@ -114,10 +110,9 @@ grew_after : {N : Net} {v₀ v₁ v₂ : List ℕ} → Grew v₀ v₁ → Risen 
 grew_after g t = record { node = g.node; node_in = g.node_in; rose = omega (arith, g.rose, t.up g.node) }
 
 module _ {M M' : (ℕ → ℕ) → (ℕ → ℕ) → Type 0} {N : Net} {v₀ v₁ v₂ : List ℕ} (m : Monotone M) (m' : Monotone M') where
-  -- what two steps tell together, where the first is not stuck
-  pub joined : (r₁ r₂ : Found) → (r₁ ≡ Stuck → ⊥) → Stepped M N v₀ v₁ r₁ → Stepped M' N v₁ v₂ r₂
-      → Stepped (λ f g. M f g × M' f g) N v₀ v₂ (join r₁ r₂)
-  joined r₁ r₂ goes s t = record { risen = risen_trans s.risen t.risen; told = tells r₁ r₂ goes s.told t.told }
+  -- what two steps tell together
+  pub joined : (r₁ r₂ : Bool) → Stepped M N v₀ v₁ (Ok r₁) → Stepped M' N v₁ v₂ (Ok r₂) → Stepped (λ f g. M f g × M' f g) N v₀ v₂ (Ok (r₁ || r₂))
+  joined r₁ r₂ s t = record { risen = risen_trans s.risen t.risen; told = tells r₁ r₂ s.told t.told }
     where
       later : M (at v₀) (at v₁) → M (at v₀) (at v₂)
       later = m.mono (λ u. le_refl _) t.risen.up
@@ -125,11 +120,8 @@ module _ {M M' : (ℕ → ℕ) → (ℕ → ℕ) → Type 0} {N : Net} {v₀ v�
       earlier : M' (at v₁) (at v₂) → M' (at v₀) (at v₂)
       earlier = m'.mono s.risen.up (λ u. le_refl _)
 
-      tells : (r₁ r₂ : Found) → (r₁ ≡ Stuck → ⊥) → Told M N v₀ v₁ r₁ → Told M' N v₁ v₂ r₂ → Told (λ f g. M f g × M' f g) N v₀ v₂ (join r₁ r₂)
-      tells r₁ Stuck goes a b = rw (← s.risen.size) b
-      tells Stuck Same goes a b = absurd (goes refl)
-      tells Stuck Changed goes a b = absurd (goes refl)
-      tells Same Same goes a b = (b.0 ∙ a.0, (later a.1, earlier b.1))
-      tells Same Changed goes a b = (grew_before s.risen b.0, (later a.1, earlier b.1))
-      tells Changed Same goes a b = (grew_after a.0 t.risen, (later a.1, earlier b.1))
-      tells Changed Changed goes a b = (grew_after a.0 t.risen, (later a.1, earlier b.1))
+      tells : (r₁ r₂ : Bool) → Told M N v₀ v₁ (Ok r₁) → Told M' N v₁ v₂ (Ok r₂) → Told (λ f g. M f g × M' f g) N v₀ v₂ (Ok (r₁ || r₂))
+      tells false false a b = (b.0 ∙ a.0, (later a.1, earlier b.1))
+      tells false true a b = (grew_before s.risen b.0, (later a.1, earlier b.1))
+      tells true false a b = (grew_after a.0 t.risen, (later a.1, earlier b.1))
+      tells true true a b = (grew_after a.0 t.risen, (later a.1, earlier b.1))

@@ -1,5 +1,6 @@
 -- What is written at the end is what the contract says: the leftmost least potentials are coordinates, the flows a list whose
 -- bound is the total, by duality; and the code's total of these coordinates is theirs.
+use Rattle.std.specs.Prelude.{Ok}
 use Prim.Native.Nat.{ℕ, ◌+◌, ◌-◌, ◌*◌, ◌≤◌, ◌<◌, min}
 use mathlib.Core.Path.{◌≡◌, refl, sym, ◌∙◌, ap, ap₂, subst}
 use mathlib.Core.List.{List, ◌++◌, map}
@@ -36,7 +37,7 @@ use Rattle.totals.specs.laws.SheetLengths.{drawing_total}
 use Rattle.arcs.specs.declared.Counts.{Counts}
 use Rattle.arcs.specs.Held.{Holds}
 use Rattle.arcs.specs.laws.HeldArcs.{proper, size_is, edges_front}
-use Rattle.checker.proofs.laws.DecisionParts.{less_none}
+use Rattle.arcs.specs.laws.HeldSheets.{bound_held}
 use Rattle.engine.specs.Draws.{Returns}
 use Rattle.engine.proofs.laws.Fits.{meant_is}
 use Rattle.engine.specs.inside.Results.{place_at, number_at, Places, Flows}
@@ -92,7 +93,7 @@ module _ {f a : List ℕ} {c : Counts} (h : Holds f a c) (flows nodes : List ℕ
   small v = omega (arith, inside_at S.width p drawing_is.is_least.candidate.inside v, (proper h).width)
 
   -- so the places can be read off
-  pub places_fit : Places nodes c.nodes
+  places_fit : Places nodes c.nodes
   places_fit = record {
     there = omega arith;
     least = λ v l. omega (arith, stored v l);
@@ -100,7 +101,7 @@ module _ {f a : List ℕ} {c : Counts} (h : Holds f a c) (flows nodes : List ℕ
   }
 
   -- and the numbers of the list
-  pub flows_fit : Flows flows
+  flows_fit : Flows flows
   flows_fit = record { small = λ i l. s.bounded i (omega arith) }
 
   -- as many coordinates as nodes
@@ -161,7 +162,7 @@ module _ {f a : List ℕ} {c : Counts} (h : Holds f a c) (flows nodes : List ℕ
     numbers_front = ap (take (certificate_size S)) list_is ∙ take_at y (drop (certificate_size S) y₀) (certificate_size S) y_size
 
     -- what the contract says
-    pub filled : FillsSheet S p₀ y₀ p' y' 0
+    pub filled : FillsSheet S p₀ y₀ p' y' (Ok tt)
     filled = record {
       room = record { nodes = omega (arith, h.nodes_are); numbers = omega (arith, size_is h) };
       leftmost = subst (LeftmostDrawing S) (sym front) drawing_is;
@@ -178,17 +179,33 @@ module _ {f a : List ℕ} {c : Counts} (h : Holds f a c) (flows nodes : List ℕ
       bound_is = ap (bound S) numbers_front ∙ bound_is ∙ ap (λ (l : List ℕ). pos (total_length S l)) (sym front);
     }
 
+-- what is read off is so whatever sheet is held
+module _ {f a : List ℕ} {c : Counts} (held : ∥ Holds f a c ∥₁) (flows nodes : List ℕ) (flows_are : length flows ≡ c.arcs)
+    (nodes_are : length nodes ≡ node_stride * (c.nodes + 1)) (s : Holds f a c → Settled a c flows nodes) where
+  -- the places
+  pub places_held : Places nodes c.nodes
+  places_held = record {
+    there = bound_held held (λ h. (places_fit h flows nodes flows_are nodes_are (s h)).there);
+    least = λ v l. bound_held held (λ h. (places_fit h flows nodes flows_are nodes_are (s h)).least v l);
+    small = λ v l. bound_held held (λ h. (places_fit h flows nodes flows_are nodes_are (s h)).small v l);
+  }
+
+  -- the numbers of the list
+  pub flows_held : Flows flows
+  flows_held =
+      record { small = λ i l. bound_held held (λ h. (flows_fit h flows nodes flows_are nodes_are (s h)).small i l) }
+
 -- the total of places that are filled in
 pub totalled : {f a : List ℕ} {c : Counts} (h : Holds f a c) (p₀ p : List ℕ) (y₀ y : List ℤ) (r : ℕ)
-    → FillsSheet (sheet_of h.numbers) p₀ y₀ p y 0
-    → r ≡ min u32_most (lengths_of (take (c.nodes - 0) p) (take (stride * c.edges - 0) a))
+    → FillsSheet (sheet_of h.numbers) p₀ y₀ p y (Ok tt)
+    → r ≡ min u32_most (lengths_of (take c.nodes p) (take (stride * c.edges) a))
     → Returns (sheet_of h.numbers) p₀ y₀ p y r
 totalled {a = a} {c} h p₀ p y₀ y r filled e =
     let S : Sheet = sheet_of h.numbers in
     let same : r ≡ total_length S (take S.nodes p) =
     e
     ∙ ap₂ (λ (l k : List ℕ). min u32_most (lengths_of l k))
-    (ap (λ (k : ℕ). take k p) (less_none c.nodes ∙ h.nodes_are))
-    (ap (λ (k : ℕ). take k a) (less_none (stride * c.edges)) ∙ edges_front h)
+    (ap (λ (k : ℕ). take k p) h.nodes_are)
+    (edges_front h)
     ∙ drawing_total S (take S.nodes p) (proper h) filled.leftmost.is_least.candidate in
     subst (Returns S p₀ y₀ p y) (sym same) filled

@@ -8,6 +8,8 @@ use native.Mathlib.Omega.{arith}
 use borrow.Author.Tests.{ne_eqb}
 use lib.Dec.{T, ltb→lt, leb→le}
 use lib.IntN.{ℤ, pos, negsuc, ◌-ℤ◌}
+use lib.ListN.{length, take, replicate}
+use Rattle.std.proofs.lemmas.List.{length-take-le, length-replicate}
 use Rattle.sheet.specs.Limits.{max_weight}
 use Rattle.network.specs.Sums.{all}
 use Rattle.network.specs.Network.{limit, Arc, Network, Feasible, integers}
@@ -32,6 +34,10 @@ use Rattle.arcs.specs.laws.HeldArcs.{proper, size_is, arcs_there, network_is}
 use Rattle.circulation.specs.Input.{LowIn, HighIn, Limited}
 use Rattle.leftmost.specs.Solutions.{Taken}
 use Rattle.leftmost.specs.laws.Hanging.{hangs_rooted}
+
+-- the front of zeros
+pub front_zeros : (n m : ℕ) → n ≤ m → length {A = ℕ} (take n (replicate m 0)) ≡ n
+front_zeros n m h = length-take-le n (replicate m 0) (omega (arith, length-replicate {A = ℕ} m 0))
 
 -- a number that is no limit, or stands for a near one
 low_number : (l : ℕ) → T (low_near (low_of l)) → LowIn l
@@ -78,10 +84,6 @@ module _ {f a : List ℕ} {c : Counts} (h : Holds f a c) where
   -- few nodes
   pub nodes_few : c.nodes ≤ 256
   nodes_few = omega (arith, h.nodes_are, (proper h).nodes)
-
-  -- few edges
-  pub edges_few : c.edges ≤ 512
-  edges_few = omega (arith, h.edges_are, (proper h).few)
 
   -- few arcs
   pub arcs_few : c.arcs ≤ 1024

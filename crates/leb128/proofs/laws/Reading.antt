@@ -57,96 +57,104 @@ collected_group bytes at v w next low (number high size) h =
 collected_group bytes at v w next low ended h = refl
 collected_group bytes at v w next low overlong h = refl
 
--- the state of the loop: left bytes may follow, the first of them at next
-pub record Reading (bytes : List ℕ) (at v w next left : ℕ) : Type 0 where
-  pub begun : at ≤ next
-  pub turns : left ≤ number_bytes
-  pub power : w ≡ 128 ^ (number_bytes - left)
+-- the state of the loop: i bytes are read, and each says that another follows
+pub record Reading (bytes : List ℕ) (at v w i : ℕ) : Type 0 where
+  pub turns : i ≤ number_bytes
+  pub inside : 0 < i → at + i ≤ length bytes
+  pub power : w ≡ 128 ^ i
   pub below : v < w
-  pub same : byte_item bytes at ≡ collected bytes at v w next (decode left (drop next bytes))
+  pub same : byte_item bytes at ≡ collected bytes at v w (at + i) (decode (number_bytes - i) (drop (at + i) bytes))
 
 -- the loop begins with nothing read
-pub reading_begin : (bytes : List ℕ) (at : ℕ) → Reading bytes at 0 1 at number_bytes
+pub reading_begin : (bytes : List ℕ) (at : ℕ) → Reading bytes at 0 1 0
 unfolding byte_item
 reading_begin bytes at =
+    let e : at + 0 ≡ at = omega arith in
     record {
-      begun = omega arith;
       turns = omega arith;
+      inside = λ (h : 0 < 0). absurd (omega arith);
       power = refl;
       below = omega arith;
-      same = collected_none bytes at (decode number_bytes (drop at bytes));
+      same = rw e (collected_none bytes at (decode number_bytes (drop at bytes)));
     }
 
-module _ {bytes : List ℕ} {at v w next left : ℕ} (state : Reading bytes at v w next left) where
+module _ {bytes : List ℕ} {at v w i : ℕ} (state : Reading bytes at v w i) where
   -- no byte more is allowed
-  pub reading_long : left ≡ 0 → refused (refusal number_form at) ≡ byte_item bytes at
+  pub reading_long : number_bytes ≤ i → refused (refusal number_form at) ≡ byte_item bytes at
   unfolding collected decode
-  reading_long e = sym (rw e at state.same)
+  reading_long h = let e : number_bytes - i ≡ 0 = omega arith in sym (rw e at state.same)
 
-  module _ (more : 0 < left) where
+  module _ (more : i < number_bytes) where
     -- one byte more is allowed
-    one_more : left ≡ suc (left - 1)
+    one_more : number_bytes - i ≡ suc (number_bytes - (i + 1))
     one_more = omega arith
 
-    -- what is to be decoded at next
-    here : byte_item bytes at ≡ collected bytes at v w next (decode (suc (left - 1)) (drop next bytes))
-    here = state.same ∙ ap (λ (k : ℕ). collected bytes at v w next (decode k (drop next bytes))) one_more
+    -- what is to be decoded at the next byte
+    here : byte_item bytes at ≡ collected bytes at v w (at + i) (decode (suc (number_bytes - (i + 1))) (drop (at + i) bytes))
+    here = state.same ∙ ap (λ (k : ℕ). collected bytes at v w (at + i) (decode k (drop (at + i) bytes))) one_more
 
     -- the input ends here
-    pub reading_ended : length bytes ≤ next → refused (refusal input_ended (length bytes)) ≡ byte_item bytes at
+    pub reading_ended : length bytes ≤ at + i → refused (refusal input_ended (length bytes)) ≡ byte_item bytes at
     unfolding collected decode
     reading_ended h = sym (rw (drop_of_length-le bytes h) at here)
 
     -- what the code's sums stay below
-    heavier : w * 128 ≡ 128 ^ (number_bytes - (left - 1))
-    heavier =
-        let e : number_bytes - (left - 1) ≡ suc (number_bytes - left) = omega (arith, state.turns) in
-        rw (e, pow-suc, ← state.power)
+    heavier : w * 128 ≡ 128 ^ (i + 1)
+    heavier = rw (add-one i, pow-suc, ← state.power)
 
     -- the next weight is no greater than the limit
     pub weight_most : w * 128 ≤ number_limit
-    weight_most =
-        rw heavier
-        (pow-le-pow_right {n = 128} (lit< tt) {i = number_bytes - (left - 1)} {j = number_bytes} (omega arith))
+    weight_most = rw heavier (pow-le-pow_right {n = 128} (lit< tt) {i = i + 1} {j = number_bytes} (omega arith))
 
     -- a group's share of the value stays below the next weight
-    pub group_most : (group : ℕ) → group < 128 → w * group + w ≤ w * 128
+    group_most : (group : ℕ) → group < 128 → w * group + w ≤ w * 128
     group_most group h = rw (mul_suc' group) at (mul-le-mul_left w h)
       where
         mul_suc' : (k : ℕ) → w * suc k ≡ w * k + w
         mul_suc' k = mul-suc w k
 
-    module _ (group : ℕ) (there : next < length bytes) (is-group : group ≡ get_or bytes next 0) where
-      -- the group that stands at next
-      found : byte_item bytes at ≡ collected bytes at v w next (decode (suc (left - 1)) (group ∷ drop (next + 1) bytes))
-      found = rw (is-group, add-one, ← drop-cons bytes next 0 there) here
+    -- with a group the value stays below the limit
+    pub value_most : (group : ℕ) → group < 128 → v + w * group < number_limit
+    value_most group h = omega (arith, state.below, weight_most, group_most group h)
+
+    module _ (group : ℕ) (there : at + i < length bytes) (is-group : group ≡ get_or bytes (at + i) 0) where
+      -- the group that stands at the next byte
+      found : byte_item bytes at ≡ collected bytes at v w (at + i) (decode (suc (number_bytes - (i + 1))) (group ∷ drop (at + i + 1) bytes))
+      found = rw (is-group, add-one (at + i), ← drop-cons bytes (at + i) 0 there) here
 
       module _ (last : group < 128) where
         -- a last group ends the number
-        found_last : byte_item bytes at ≡ cond (eqb group 0 && ltb at next) (refused (refusal number_form at)) (value (v + w * group) (next + 1))
+        found_last : byte_item bytes at ≡ cond (eqb group 0 && ltb at (at + i)) (refused (refusal number_form at)) (value (v + w * group) (at + i + 1))
         unfolding collected
-        found_last = found ∙ rw (decode_last (left - 1) group (drop (next + 1) bytes) last)
+        found_last = found ∙ rw (decode_last (number_bytes - (i + 1)) group (drop (at + i + 1) bytes) last)
 
         -- a last byte 00 that is not the only one is refused
-        pub reading_needless : (eqb group 0 && ltb at next) ≡ true → refused (refusal number_form at) ≡ byte_item bytes at
-        reading_needless e = sym (rw e at found_last)
+        pub reading_needless : group ≡ 0 → 0 < i → refused (refusal number_form at) ≡ byte_item bytes at
+        reading_needless z h = sym (rw (z, lt-ltb at (at + i) (omega arith)) at found_last)
 
         -- the number is whole
-        pub reading_value : (eqb group 0 && ltb at next) ≡ false → value (v + w * group) (next + 1) ≡ byte_item bytes at
-        reading_value e = sym (rw e at found_last)
+        pub reading_value : (group ≡ 0 → 0 < i → ⊥) → value (v + w * group) (at + i + 1) ≡ byte_item bytes at
+        reading_value h =
+            sym
+            (found_last
+            ∙ ⊎_elim
+            (λ (z : group ≡ 0). rw (z, le-ltb at (at + i) (omega (arith, h z))))
+            (λ (z : group ≡ 0 → ⊥). rw (ne_eqb group 0 z))
+            (eq_or_ne group 0))
 
       -- a group that goes on is collected
-      pub reading_next : 128 ≤ group → group < 256 → Reading bytes at (v + w * (group - 128)) (w * 128) (next + 1) (left - 1)
+      pub reading_next : 128 ≤ group → group < 256 → Reading bytes at (v + w * (group - 128)) (w * 128) (i + 1)
       reading_next long byte =
+          let e : at + (i + 1) ≡ at + i + 1 = omega arith in
           record {
-            begun = omega (arith, state.begun);
-            turns = omega (arith, state.turns);
+            turns = omega arith;
+            inside = λ (_ : 0 < i + 1). omega arith;
             power = heavier;
             below = omega (arith, state.below, group_most (group - 128) (omega arith));
             same =
-                found
-                ∙
-                (ap (collected bytes at v w next) (decode_more (left - 1) group (drop (next + 1) bytes) long)
-                ∙ collected_group bytes at v w next (group - 128) (decode (left - 1) (drop (next + 1) bytes))
-                state.begun);
+                rw e
+                (found
+                ∙ (ap (collected bytes at v w (at + i)) (decode_more (number_bytes - (i + 1)) group (drop (at + i + 1) bytes) long)
+                ∙ collected_group bytes at v w (at + i) (group - 128) (decode (number_bytes - (i + 1)) (drop (at + i + 1) bytes))
+                (omega arith)));
           }

@@ -4,6 +4,7 @@ use mathlib.Core.Path.{◌≡◌, refl, ap}
 use mathlib.Core.Logic.{⊎_elim}
 use mathlib.Core.List.{List}
 use native.Mathlib.Omega.{arith}
+use Rattle.std.specs.Prelude.{Result, Ok, Err}
 use native.Mathlib.Nat.{pow-suc, div-lt_iff_lt-mul}
 use lib.ListN.{length, set}
 use lib.Dec.{lit<}
@@ -14,9 +15,9 @@ use Rattle.leb128.specs.Place.{Placing, placing, placed, written}
 use Rattle.leb128.specs.inside.Storing.{Room, Puts}
 use Rattle.leb128.specs.laws.Cases.{lt_or_le}
 use Rattle.leb128.specs.laws.DecodeEncode.{encode_last, encode_more}
-use Rattle.leb128.specs.laws.Storing.{Left, left_begin, left_one, left_end}
-use Rattle.leb128.specs.declared.Placed.{Placed}
-use Rattle.leb128.specs.declared.Placed.TheVariants.{Next, NoForm, NoRoom}
+use Rattle.leb128.specs.laws.Storing.{Left, left_one, left_end}
+use Rattle.leb128.specs.declared.Unplaced.{Unplaced}
+use Rattle.leb128.specs.declared.Unplaced.TheVariants.{NoForm, NoRoom}
 
 -- the last byte allowed is one byte
 last_size : (n : ℕ) → length (encode 1 n) ≡ 1
@@ -41,21 +42,17 @@ pub record Sizing (n rest size : ℕ) : Type 0 where
   pub turns : size ≤ number_bytes
   pub same : length (encode number_bytes n) + 1 ≡ size + length (encode (suc (number_bytes - size)) rest)
 
--- the count begins with the last byte
-pub sizing_begin : (n : ℕ) → Sizing n n 1
-sizing_begin n = record { begun = omega arith; turns = omega arith; same = omega arith }
-
 module _ {n rest size : ℕ} (state : Sizing n rest size) where
   -- a last group is one byte
   pub sizing_last : rest < 128 → size ≡ length (encode number_bytes n)
   sizing_last h = omega (arith, state.same, ap length (encode_last (number_bytes - size) rest h))
 
   -- no byte more is allowed
-  pub sizing_end : number_bytes ≤ size → size ≡ length (encode number_bytes n)
+  pub sizing_end : number_bytes ≤ size → number_bytes ≡ length (encode number_bytes n)
   sizing_end h =
       let e : number_bytes - size ≡ 0 = omega arith in
       let f = rw e at state.same in
-      omega (arith, f, last_size rest)
+      omega (arith, state.turns, f, last_size rest)
 
   -- a group that goes on is one byte
   pub sizing_next : size < number_bytes → 128 ≤ rest → Sizing n (rest / 128) (size + 1)
@@ -73,10 +70,6 @@ pub record BytesLeft (old : List ℕ) (at n : ℕ) (new : List ℕ) (rest next :
   pub more : ℕ
   pub below : rest < 128 ^ suc more
   pub left : Left old at (encode number_bytes n) new next (encode (suc more) rest)
-
--- all bytes are left at the start
-pub bytes_begin : (old : List ℕ) (at n : ℕ) → n < number_limit → BytesLeft old at n old n at
-bytes_begin old at n h = record { more = number_bytes - 1; below = h; left = left_begin old at (encode number_bytes n) }
 
 module _ {old : List ℕ} {at n : ℕ} {new : List ℕ} {rest next : ℕ} (state : BytesLeft old at n new rest next) where
   -- the next byte has room
@@ -102,24 +95,24 @@ module _ {old : List ℕ} {at n : ℕ} {new : List ℕ} {rest next : ℕ} (state
           }
 
 -- the answer and the slice of the contract
-abbrev pub WrittenAs : List ℕ → ℕ → ℕ → Placed → List ℕ → Type 0
+abbrev pub WrittenAs : List ℕ → ℕ → ℕ → Result ℕ Unplaced → List ℕ → Type 0
 WrittenAs old at n answer new = (placing answer ≡ placed (length old) at n) × (new ≡ written (placed (length old) at n) old at n)
 
 module _ (old : List ℕ) (at n : ℕ) where
   -- a number at the limit or above has no form
-  pub no_form : number_limit ≤ n → WrittenAs old at n NoForm old
+  pub no_form : number_limit ≤ n → WrittenAs old at n (Err NoForm) old
   unfolding placing placed written
   no_form h = rw (le-ltb n number_limit h) (refl, refl)
 
   module _ (form : n < number_limit) where
     -- the slice ends within the number
-    pub no_room : length old < at + length (encode number_bytes n) → WrittenAs old at n NoRoom old
+    pub no_room : length old < at + length (encode number_bytes n) → WrittenAs old at n (Err NoRoom) old
     unfolding placing placed written
     no_room h = rw (lt-ltb n number_limit form, lt-ltb (length old) (at + length (encode number_bytes n)) h) (refl, refl)
 
     -- the number is written
     pub next_place : (after : ℕ) (new : List ℕ) → at + length (encode number_bytes n) ≤ length old
-        → Puts old at (encode number_bytes n) new after → WrittenAs old at n (Next after) new
+        → Puts old at (encode number_bytes n) new after → WrittenAs old at n (Ok after) new
     unfolding placing placed written
     next_place after new h p =
         rw (lt-ltb n number_limit form, le-ltb (length old) (at + length (encode number_bytes n)) h)

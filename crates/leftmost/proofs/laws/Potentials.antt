@@ -1,13 +1,13 @@
 -- What stands where after the potentials are put into the nodes: each store touches its own number only.
 use Prim.Native.Nat.{ℕ, zero, suc, ◌+◌, ◌*◌, ◌/◌, ◌≤◌, ◌<◌}
-use mathlib.Core.Path.{◌≡◌, refl, sym, ◌∙◌, ap}
+use mathlib.Core.Path.{◌≡◌, refl, sym, ◌∙◌, ap, ap₂}
 use mathlib.Core.List.{List}
 use native.Mathlib.Nat.{add-zero}
 use native.Mathlib.Numerals.{add-one}
 use native.Mathlib.Decide.{ℕ_discrete}
 use native.Mathlib.Omega.{arith}
-use lib.ListN.{length, set, length-set}
-use lib.Seq.{get_or-set_same, get_or-set_other}
+use lib.ListN.{length, take, set, length-take, length-set}
+use lib.Seq.{get_or-take, get_or-set_same, get_or-set_other}
 use Rattle.network.specs.Net.{at}
 use Rattle.network.specs.Nodes.{node_stride, potentials, size}
 use Rattle.circulation.specs.laws.Columns.{column_at, column_past}
@@ -23,6 +23,21 @@ pub potentials_next : (n : ℕ) (values nodes : List ℕ)
     → potentials_to (n + 1) values nodes ≡ set (potentials_to n values nodes) (node_stride * n) (at values n)
 unfolding potentials_to
 potentials_next n values nodes = rw (add-one n)
+
+-- so many values of a slice are enough
+pub potentials_front : (n k : ℕ) (values nodes : List ℕ) → n ≤ k → potentials_to n (take k values) nodes ≡ potentials_to n values nodes
+unfolding potentials_to
+potentials_front zero k values nodes h = refl
+potentials_front (suc n) k values nodes h =
+    ap₂ (λ (l : List ℕ) (x : ℕ). set l (node_stride * n) x) (potentials_front n k values nodes (omega arith))
+    (get_or-take k values n 0 (omega arith))
+
+-- the nodes with the first n values, lent as a part
+pub potentials_part : (n : ℕ) (values nodes : List ℕ) → n ≤ length values
+    → potentials_to (length (take n values)) (take n values) nodes ≡ potentials_to n values nodes
+potentials_part n values nodes h =
+    let size : length (take n values) ≡ n = omega (arith, length-take n values) in
+    ap (λ (k : ℕ). potentials_to k (take n values) nodes) size ∙ potentials_front n n values nodes (omega arith)
 
 -- the length stays
 pub potentials_length : (n : ℕ) (values nodes : List ℕ) → length (potentials_to n values nodes) ≡ length nodes

@@ -4,18 +4,18 @@ use mathlib.Core.Path.{◌≡◌, sym, ◌∙◌, ap, subst}
 use mathlib.Core.List.{List}
 use native.Mathlib.Decide.{ℕ_discrete, dec_lt}
 use native.Mathlib.Omega.{arith}
+use Rattle.std.proofs.Common.{Result, Ok, Err}
 use lib.ListN.{length, take, replicate, length-take, get_or-eq_default}
 use lib.Seq.{get_or-take}
 use Rattle.network.specs.Net.{at, Net, meant}
 use Rattle.difference.specs.Solutions.{RestKept, Solves, finding as difference-finding, Means as DifferenceMeans}
-use Rattle.difference.specs.declared.Answer as difference
-use Rattle.difference.specs.declared.Answer.TheVariants as found
+use Rattle.network.specs.declared.Unsolved.{Unsolved}
+use Rattle.network.specs.declared.Unsolved.TheVariants.{NoSolution, Malformed}
 use Rattle.network.specs.Nodes.{node_stride, potentials, size}
 use Rattle.circulation.specs.Input.{ArcsTaken, First, Valid}
 use Rattle.circulation.specs.Solutions.{Solution, Cleared as NodesCleared, finding as flow-finding, Means as CirculationMeans}
 use Rattle.circulation.specs.laws.Feasible.{feasible_stored}
-use Rattle.circulation.specs.declared.Answer as circulation
-use Rattle.circulation.specs.declared.Answer.TheVariants as circulated
+use Rattle.circulation.specs.declared.Malformed as circulation
 use Rattle.leftmost.specs.Solutions.{Taken, SomeFeasible, Finding, Means}
 use Rattle.leftmost.specs.inside.Potentials.{potentials_to}
 use Rattle.leftmost.proofs.laws.Potentials.{ready, size_same, potential_is, potential_behind, potentials_length, behind_same}
@@ -67,10 +67,10 @@ cleared_before nodes₀ nodes₁ nodes size_is behind m = record {
 module _ {N : Net} (x₀ nodes₀ room₀ x nodes room : List ℕ) (taken : Taken N (size nodes₀) (length room₀))
     (zeros : room ≡ replicate (length room₀) 0) where
   -- what the solver of flows leaves from there is the answer: it is never malformed
-  left_from : (values : List ℕ) (r : circulation.Answer) → RestKept (size nodes₀) room₀ values → Solves N (size nodes₀) values
+  left_from : (values : List ℕ) (r : Result (Unit {0}) circulation.Malformed) → RestKept (size nodes₀) room₀ values → Solves N (size nodes₀) values
       → CirculationMeans N x₀ (ready values nodes₀) x nodes (flow-finding r)
       → Means N x₀ nodes₀ room₀ x nodes room Finding.solved
-  left_from values circulated.Solved kept g m = (
+  left_from values (Ok done) kept g m = (
     taken,
     record { start = take (size nodes₀ - 1) values; feasible = g.lowest.feasible },
     m.1,
@@ -81,29 +81,20 @@ module _ {N : Net} (x₀ nodes₀ room₀ x nodes room : List ℕ) (taken : Take
     },
     subst (λ (n : ℕ). Solution N n (at x) (at (potentials nodes))) (size_same values nodes₀) m.3,
   )
-  left_from values circulated.Malformed kept g m = absurd (m.0
+  left_from values (Err refused) kept g m = absurd (m.0
       (subst (λ (n : ℕ). Valid N n (potentials (ready values nodes₀))) (sym (size_same values nodes₀))
       (valid_start values nodes₀ taken.arcs_in g (omega (arith, taken.room_in, kept.size)))))
 
   -- where some potentials are feasible, the solver of differences finds the least: the only case of its answer
-  pub solved_from : (values started : List ℕ) (a : difference.Answer) (r : circulation.Answer) → SomeFeasible (meant N (size nodes₀))
+  pub solved_from : (values started : List ℕ) (a : Result (Unit {0}) Unsolved) (r : Result (Unit {0}) circulation.Malformed) → SomeFeasible (meant N (size nodes₀))
       → DifferenceMeans N (size nodes₀) room₀ values (difference-finding a) → started ≡ potentials_to (size nodes₀) values nodes₀
       → CirculationMeans N x₀ started x nodes (flow-finding r) → Means N x₀ nodes₀ room₀ x nodes room Finding.solved
-  solved_from values started found.Solved r some d e m =
+  solved_from values started (Ok done) r some d e m =
       left_from values r d.1 d.2
       (subst (λ (l : List ℕ). CirculationMeans N x₀ l x nodes (flow-finding r)) e m)
-  solved_from values started found.NoSolution r some d e m = absurd (d.2 some.start some.feasible)
-  solved_from values started found.Malformed r some d e m =
+  solved_from values started (Err NoSolution) r some d e m = absurd (d.2 some.start some.feasible)
+  solved_from values started (Err Malformed) r some d e m =
       absurd (d.0 (record { wf = taken.arcs_in.wf; values_room = taken.room_in }))
-
--- where the solver of differences has found potentials, some are feasible, also of the nodes that they are put into
-pub feasible_start : {N : Net} (nodes₀ room₀ values started : List ℕ) → ArcsTaken N (size nodes₀) → size nodes₀ ≤ length room₀
-    → RestKept (size nodes₀) room₀ values → Solves N (size nodes₀) values → length started ≡ length nodes₀
-    → Taken N (size started) (length values) × SomeFeasible (meant N (size started))
-feasible_start {N} nodes₀ room₀ values started arcs_in enough kept g same = rw same (
-  record { arcs_in = arcs_in; room_in = omega (arith, kept.size) },
-  record { start = take (size nodes₀ - 1) values; feasible = g.lowest.feasible },
-)
 
 -- a solution from slices that were worked in is one from the slices before: they are as long, and the same behind the last node
 pub solved_before : {N : Net} (x₀ nodes₀ room₀ x₁ nodes₁ room₁ x nodes room : List ℕ) → length x₁ ≡ length x₀

@@ -1,5 +1,5 @@
 -- The loop that sets the width: the arcs in front of an index are set, and those behind it, set too, give the whole.
-use Prim.Native.Nat.{ℕ, zero, suc, ◌+◌, ◌-◌, ◌*◌, ◌/◌, ◌≤◌, ◌<◌}
+use Prim.Native.Nat.{ℕ, suc, ◌+◌, ◌-◌, ◌*◌, ◌/◌, ◌≤◌, ◌<◌}
 use mathlib.Core.Path.{◌≡◌, refl, sym, ◌∙◌, ap, ap₂}
 use mathlib.Core.List.{List, ◌++◌, append_assoc}
 use native.Mathlib.Omega.{arith}
@@ -9,16 +9,18 @@ use Rattle.network.specs.Packed.{tail_at, kink_at, stride}
 use Rattle.packed.specs.Widths.{widened_kink, widened_first, widened_to, widened}
 
 module _ (ground width : ℕ) where
-  -- of the packed arcs of old, those in front of an index are set in new, and so many are left
-  pub record Widening (old new : List ℕ) (left at : ℕ) : Type 0 where
+  -- of the packed arcs of old, the first i are set in new
+  pub record Widening (old new : List ℕ) (i : ℕ) : Type 0 where
     pub size : length new ≡ length old
-    pub inside : at + stride * left ≤ length new
-    pub whole : take at new ++ widened_to ground width left (drop at new) ≡ widened ground width old
+    pub whole : take (stride * i) new ++ widened_to ground width (length old / stride - i) (drop (stride * i) new)
+        ≡ widened ground width old
 
-  -- all are left
-  pub widening_begin : (old : List ℕ) → Widening old old (length old / stride) 0
+  -- none is set
+  pub widening_begin : (old : List ℕ) → Widening old old 0
   unfolding widened
-  widening_begin old = record { size = refl; inside = omega arith; whole = refl }
+  widening_begin old =
+      let all : length old / stride - 0 ≡ length old / stride = omega arith in
+      record { size = refl; whole = ap (λ (n : ℕ). widened_to ground width n old) all }
 
   -- the kink that is stored in the arc at an index
   abbrev kink_of : List ℕ → ℕ → ℕ
@@ -30,13 +32,6 @@ module _ (ground width : ℕ) where
       drop-set-add at s kink_at (kink_of s at)
       ∙ ap₂ (λ (t k : ℕ). set (drop at s) kink_at (widened_kink ground width t k)) (sym (get_or-drop at s tail_at 0))
       (sym (get_or-drop at s kink_at 0))
-
-  -- of those left, the first and the others
-  first_of : (left : ℕ) (s : List ℕ) → 0 < left
-      → take stride (widened_first ground width s) ++ widened_to ground width (left - 1) (drop stride s)
-      ≡ widened_to ground width left s
-  first_of zero s h = absurd (omega arith)
-  first_of (suc left) s h = let less : suc left - 1 ≡ left = omega arith in rw less
 
   -- an arc is set at the index
   module _ (s : List ℕ) (at : ℕ) where
@@ -55,26 +50,27 @@ module _ (ground width : ℕ) where
     rest_kept = drop-set-lt (at + stride) s (at + kink_at) (kink_of s at) (omega arith) ∙ sym (drop-drop stride at s)
 
     -- the whole is the same
-    whole_kept : (left : ℕ) → 0 < left
-        → take (at + stride) next ++ widened_to ground width (left - 1) (drop (at + stride) next)
-        ≡ take at s ++ widened_to ground width left (drop at s)
-    whole_kept left h =
-        ap₂ (λ (a b : List ℕ). a ++ widened_to ground width (left - 1) b) front_set rest_kept
+    whole_kept : (left : ℕ)
+        → take (at + stride) next ++ widened_to ground width left (drop (at + stride) next)
+        ≡ take at s ++ widened_to ground width (suc left) (drop at s)
+    whole_kept left =
+        ap₂ (λ (a b : List ℕ). a ++ widened_to ground width left b) front_set rest_kept
         ∙ append_assoc (take at s) (take stride (widened_first ground width (drop at s)))
-        (widened_to ground width (left - 1) (drop stride (drop at s)))
-        ∙ ap (λ (l : List ℕ). take at s ++ l) (first_of left (drop at s) h)
+        (widened_to ground width left (drop stride (drop at s)))
 
   -- one more
-  pub widening_next : {old new : List ℕ} {left at x : ℕ} → Widening old new left at → 0 < left → x ≡ kink_of new at
-      → Widening old (set new (at + kink_at) x) (left - 1) (at + stride)
-  widening_next {old} {new} {left} {at} {x} w h e = record {
-    size = length-set new (at + kink_at) x ∙ w.size;
-    inside = omega (arith, w.inside, length-set new (at + kink_at) x);
-    whole = rw e (whole_kept new at left h) ∙ w.whole;
-  }
+  pub widening_next : {old new : List ℕ} {i x : ℕ} → Widening old new i → i < length old / stride → x ≡ kink_of new (stride * i)
+      → Widening old (set new (stride * i + kink_at) x) (i + 1)
+  widening_next {old} {new} {i} {x} w h e =
+      let left : length old / stride - i ≡ suc (length old / stride - (i + 1)) = omega arith in
+      let at : stride * (i + 1) ≡ stride * i + stride = omega arith in
+      record {
+        size = length-set new (stride * i + kink_at) x ∙ w.size;
+        whole = rw (at, e) (whole_kept new (stride * i) (length old / stride - (i + 1)) ∙ rw left at w.whole);
+      }
 
   -- none is left
-  pub widening_end : {old new : List ℕ} {left at : ℕ} → Widening old new left at → left ≡ 0 → new ≡ widened ground width old
-  widening_end {old} {new} {left} {at} w e =
-      let whole : take at new ++ drop at new ≡ widened ground width old = rw e at w.whole in
-      sym (take-append-drop at new) ∙ whole
+  pub widening_end : {old new : List ℕ} {i : ℕ} → Widening old new i → length old / stride ≤ i → new ≡ widened ground width old
+  widening_end {old} {new} {i} w h =
+      let left : length old / stride - i ≡ 0 = omega arith in
+      sym (take-append-drop (stride * i) new) ∙ rw left at w.whole

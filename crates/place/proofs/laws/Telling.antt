@@ -13,15 +13,15 @@ use Rattle.leb128.specs.Format.{Result, outcome, answered, filled}
 use Rattle.leb128.specs.Format.Result.{elements}
 use Rattle.leb128.specs.laws.GoodFormat.{filled_elements}
 use Rattle.leb128.specs.declared.Refusal.{Refusal}
-use Rattle.leb128.specs.declared.Answer.{Answer}
+use Rattle.std.specs.Prelude.{Ok, Err}
+use Rattle.std.specs.Prelude.{Result as Answer}
+use Rattle.std.specs.Result.{result_unwrap_or}
 use Rattle.sheet.specs.Reading.{read_sheet}
 use Rattle.sheet.specs.laws.Sheets.{read_accepted, good_layout}
 use Rattle.drawing.specs.Sheet.{sheet_of}
 use Rattle.drawing.specs.Drawing.{coordinate}
 use Rattle.drawing.proofs.laws.Proper.{nodes_are}
 use Rattle.engine.specs.Draws.{Draws, drawn_of}
-use Rattle.engine.specs.declared.Answer.{Answer as EngineAnswer}
-use Rattle.engine.specs.declared.Answer.TheVariants as engine
 use Rattle.report.specs.Limits.{max_text}
 use Rattle.report.specs.Text.{drawing_lines, refusal_line, drawing_text, refusal_text}
 use Rattle.report.specs.laws.Lengths.{drawing_lines_le, any_text_limit, refusal_line_le, refusal_limit}
@@ -35,14 +35,20 @@ record Fits (text : Result) (room : ℕ) : Type 0 where
   pub is : text ≡ elements whole
   pub few : length whole ≤ room
 
+-- how many elements an answer says were written
+written : (answer : Answer ℕ Refusal) → result_unwrap_or answer 0 ≡ count_of (outcome answer)
+unfolding count_of outcome
+written (Ok count) = refl
+written (Err r) = refl
+
 -- it is all written
-shown : {text : Result} (answer : Answer) (old new : List ℕ) {count : ℕ} → Fits text (length old)
-    → outcome answer ≡ answered (length old) text → new ≡ filled text old → count ≡ count_of (outcome answer) → Shows text new count
+shown : {text : Result} (answer : Answer ℕ Refusal) (old new : List ℕ) {count : ℕ} → Fits text (length old)
+    → outcome answer ≡ answered (length old) text → new ≡ filled text old → count ≡ result_unwrap_or answer 0 → Shows text new count
 unfolding answered count_of
 shown {text} answer old new {count} fits e f c =
     let es : List ℕ = fits.whole in
     let all : count ≡ length es =
-    c ∙ ap count_of (e ∙ ap (answered (length old)) fits.is) ∙ rw (le-ltb (length old) (length es) fits.few) in
+    c ∙ written answer ∙ ap count_of (e ∙ ap (answered (length old)) fits.is) ∙ rw (le-ltb (length old) (length es) fits.few) in
     let front : new ≡ es ++ drop (length es) old = f ∙ filled_elements old fits.is fits.few in
     record {
       inside = omega (arith, ap length front ∙ length-append es (drop (length es) old));
@@ -86,10 +92,10 @@ drawing_fits bytes p total room h a small t =
     }
 
 -- an answer of the engine, told
-module _ (bytes p old new : List ℕ) {count : ℕ} (drawn : EngineAnswer) (answer : Answer)
-    (room : max_text ≤ length old) (a : Answered (read_sheet bytes) p (drawn_of drawn)) (c : count ≡ count_of (outcome answer)) where
+module _ (bytes p old new : List ℕ) {count : ℕ} (drawn answer : Answer ℕ Refusal)
+    (room : max_text ≤ length old) (a : Answered (read_sheet bytes) p (drawn_of drawn)) (c : count ≡ result_unwrap_or answer 0) where
   -- a drawing
-  pub told_drawing : {total : ℕ} → drawn ≡ engine.Drawn total → ((v : ℕ) → coordinate p v < list_limit) → total < 2 ^ 32
+  pub told_drawing : {total : ℕ} → drawn ≡ Ok total → ((v : ℕ) → coordinate p v < list_limit) → total < 2 ^ 32
       → outcome answer ≡ answered (length old) (drawing_text (read_sheet bytes) p total)
       → new ≡ filled (drawing_text (read_sheet bytes) p total) old
       → Shows (answer_text (read_sheet bytes) p (drawn_of drawn)) new count
@@ -98,7 +104,7 @@ module _ (bytes p old new : List ℕ) {count : ℕ} (drawn : EngineAnswer) (answ
       rw is (shown answer old new (drawing_fits bytes p total (length old) room (rw is at a) small t) e f c)
 
   -- a refusal
-  pub told_refusal : {r : Refusal} → drawn ≡ engine.Refused r → r.number < 2 ^ 8 → r.offset < 2 ^ 64
+  pub told_refusal : {r : Refusal} → drawn ≡ Err r → r.number < 2 ^ 8 → r.offset < 2 ^ 64
       → outcome answer ≡ answered (length old) (refusal_text r) → new ≡ filled (refusal_text r) old
       → Shows (answer_text (read_sheet bytes) p (drawn_of drawn)) new count
   unfolding drawn_of answer_text

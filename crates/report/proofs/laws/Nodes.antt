@@ -1,6 +1,8 @@
 -- The lines of all nodes are stored node after node, each where `node_of` says that the node stands.
 use Prim.Native.Nat.{ℕ, suc, ◌+◌, ◌-◌, ◌≤◌, ◌<◌}
-use mathlib.Core.Path.{◌≡◌, sym, ◌∙◌, ap}
+use mathlib.Core.Path.{◌≡◌, refl, sym, ◌∙◌, ap}
+use mathlib.Core.Bool.{true, false}
+use Rattle.std.specs.Option.{is_some}
 use mathlib.Core.List.{List, ◌++◌}
 use mathlib.Core.Logic.{⊎_elim}
 use native.Mathlib.Nat.{zero-add}
@@ -12,7 +14,7 @@ use Rattle.sheet.specs.Layout.{node_count, LaidOut}
 use Rattle.sheet.specs.Nodes.{standing, node_of}
 use Rattle.sheet.specs.Nodes.Located.{found, missing}
 use Rattle.sheet.specs.declared.Location.{Location}
-use Rattle.sheet.specs.declared.Location.TheVariants.{Node, Nowhere}
+use Rattle.std.specs.Prelude.{Option, Some, None}
 use Rattle.drawing.specs.Sheet.{sheet_of}
 use Rattle.drawing.specs.Drawing.{coordinate}
 use Rattle.drawing.specs.laws.Located.{stands, found_node}
@@ -20,13 +22,13 @@ use Rattle.report.specs.Text.{node_line, layers_lines}
 use Rattle.report.specs.laws.ByNode.{line_of, lines_from, by_node}
 
 -- where the locator finds a node
-pub at_node : (numbers : List ℕ) (v : ℕ) {r : Location} {layer position : ℕ} → standing r ≡ node_of numbers v
-    → r ≡ Node layer position → node_of numbers v ≡ found layer position
+pub at_node : (numbers : List ℕ) (v : ℕ) {r : Option Location} {node : Location} → standing r ≡ node_of numbers v
+    → r ≡ Some node → node_of numbers v ≡ found node.layer node.position
 unfolding standing
 at_node numbers v e is = sym e ∙ ap standing is
 
 -- where it finds none, all nodes are before
-pub all_before : (numbers : List ℕ) (v : ℕ) {r : Location} → standing r ≡ node_of numbers v → r ≡ Nowhere → node_count numbers ≤ v
+pub all_before : (numbers : List ℕ) (v : ℕ) {r : Option Location} → standing r ≡ node_of numbers v → r ≡ None → node_count numbers ≤ v
 unfolding standing
 all_before numbers v e is =
     ⊎_elim
@@ -36,6 +38,24 @@ all_before numbers v e is =
     let z : ◌≡◌ {A = ℕ} 0 1 = cc in absurd (omega arith))
     (λ (h : node_count numbers ≤ v). h)
     (lt_or_le v (node_count numbers))
+
+-- whether there is a node v, by whether the locator finds one
+pub some_before : (numbers : List ℕ) (v : ℕ) (r : Option Location) → standing r ≡ node_of numbers v → is_some r ≡ true
+    → v < node_count numbers
+some_before numbers v r e is = go r refl is
+  where
+    go : (o : Option Location) → r ≡ o → is_some o ≡ true → v < node_count numbers
+    go (Some node) f i = found_node numbers v node.layer node.position (at_node numbers v e f)
+    go None f i = let z : ◌≡◌ {A = ℕ} 0 1 = cc in absurd (omega arith)
+
+-- there is none
+pub none_before : (numbers : List ℕ) (v : ℕ) (r : Option Location) → standing r ≡ node_of numbers v → is_some r ≡ false
+    → node_count numbers ≤ v
+none_before numbers v r e is = go r refl is
+  where
+    go : (o : Option Location) → r ≡ o → is_some o ≡ false → node_count numbers ≤ v
+    go (Some node) f i = let z : ◌≡◌ {A = ℕ} 0 1 = cc in absurd (omega arith)
+    go None f i = all_before numbers v e f
 
 -- the lines of the nodes from v on are left to store
 pub record NodesLeft (numbers p old : List ℕ) (start : ℕ) (new : List ℕ) (at v : ℕ) : Type 0 where

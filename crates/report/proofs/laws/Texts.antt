@@ -4,7 +4,7 @@ use mathlib.Core.Path.{◌≡◌, sym, ◌∙◌, ap}
 use mathlib.Core.List.{List}
 use native.Mathlib.Omega.{arith}
 use lib.ListN.{length, take, drop}
-use lib.Seq.{take_at}
+use lib.Seq.{take_at, length-take-le}
 use borrow.Author.Tests.{lt-ltb, le-ltb}
 use Rattle.leb128.specs.Limits.{list_limit}
 use Rattle.leb128.specs.Refusals.{slice_short}
@@ -12,8 +12,7 @@ use Rattle.leb128.specs.Source.{refusal}
 use Rattle.leb128.specs.Format.{Result, Outcome, outcome, answered, filled}
 use Rattle.leb128.specs.Format.Result.{elements}
 use Rattle.leb128.specs.declared.Refusal.{Refusal}
-use Rattle.leb128.specs.declared.Answer.{Answer}
-use Rattle.leb128.specs.declared.Answer.TheVariants.{Refused}
+use Rattle.std.specs.Prelude.{Result as Answer, Err}
 use Rattle.leb128.specs.inside.Storing.{Room, Puts}
 use Rattle.leb128.specs.laws.Storing.{sets_front, puts_length}
 use Rattle.sheet.specs.Layout.{node_count, LaidOut}
@@ -49,22 +48,24 @@ module _ {old text new : List ℕ} {count : ℕ} (room : Room old 0 text) (p : P
   pub made_inside : count ≤ length new
   made_inside = omega (arith, room.fits, p.behind, puts_length p)
 
+  -- so long it is
+  pub made_count : count ≡ length (take count new)
+  made_count = sym (length-take-le count new made_inside)
+
   -- it is what stands there
-  made_is : take (count - 0) new ≡ text
+  made_is : take count new ≡ text
   made_is =
-      let none : count - 0 ≡ count = omega arith in
       let size : length text ≡ count = omega (arith, p.behind) in
-      ap (λ (n : ℕ). take n new) none
-      ∙ ap (take count) (p.stored ∙ sets_front text old (omega (arith, room.fits)))
+      ap (take count) (p.stored ∙ sets_front text old (omega (arith, room.fits)))
       ∙ take_at text (drop (length text) old) count size
 
   -- the answer to a delivery of what stands there
-  pub made_answer : {r : Outcome} (space : ℕ) → r ≡ answered space (elements (take (count - 0) new)) → r ≡ answered space (elements text)
+  pub made_answer : {r : Outcome} (space : ℕ) → r ≡ answered space (elements (take count new)) → r ≡ answered space (elements text)
   made_answer space e = e ∙ ap (λ (t : List ℕ). answered space (elements t)) made_is
 
   -- the slice after it
   pub made_slice : {after : List ℕ} (before : List ℕ)
-      → after ≡ filled (elements (take (count - 0) new)) before → after ≡ filled (elements text) before
+      → after ≡ filled (elements (take count new)) before → after ≡ filled (elements text) before
   made_slice before e = e ∙ ap (λ (t : List ℕ). filled (elements t) before) made_is
 
 module _ (numbers p : List ℕ) (total : ℕ) where
@@ -81,7 +82,7 @@ module _ (numbers p : List ℕ) (total : ℕ) where
 
 -- a refusal is the answer, and nothing is written
 module _ {result : Result} {r : Refusal} (e : result ≡ Result.refused r) where
-  pub refused_answer : {a : Answer} (space : ℕ) → a ≡ Refused r → outcome a ≡ answered space result
+  pub refused_answer : {a : Answer ℕ Refusal} (space : ℕ) → a ≡ Err r → outcome a ≡ answered space result
   unfolding outcome answered
   refused_answer space is = ap outcome is ∙ sym (ap (answered space) e)
 

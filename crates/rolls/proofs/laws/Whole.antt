@@ -5,30 +5,30 @@ use mathlib.Core.List.{List}
 use lib.ListN.{length}
 use Rattle.leb128.specs.Format.{Result, Outcome, outcome}
 use Rattle.leb128.specs.Format.Outcome.{wrote}
-use Rattle.leb128.specs.declared.Answer.{Answer}
-use Rattle.leb128.specs.declared.Answer.TheVariants.{Done, Refused}
+use Rattle.std.specs.Prelude.{Ok, Err}
+use Rattle.std.specs.Prelude.{Result as Answer}
 use Rattle.leb128.specs.declared.Refusal.{Refusal}
 use Rattle.sheet.specs.Reading.{read_sheet}
-use Rattle.arcs.specs.declared.Counts.{Counts}
+use Rattle.arcs.specs.declared.Loaded.{Loaded}
 use Rattle.arcs.specs.laws.HeldArcs.{loaded_holds, holds_reads}
 use Rattle.arcs.specs.laws.Loaded.{LoadedSheet}
 use Rattle.rolls.specs.Totals.{widths_answer, totals_answer, Written}
 use Rattle.rolls.specs.inside.Held.{EntriesHeld, WrittenHeld}
 
 -- the answer for the sheet that is held, and what is left of it
-abbrev pub Answered : (f a : List ℕ) (c : Counts) (ws old new : List ℕ) (o : Outcome) → Type 0
-Answered f a c ws old new o = (o ≡ widths_answer ws (length old)) × WrittenHeld f a c ws old new
+abbrev pub Answered : Loaded → (ws old new : List ℕ) (o : Outcome) → Type 0
+Answered s ws old new o = (o ≡ widths_answer ws (length old)) × WrittenHeld s ws old new
 
-module _ (f a : List ℕ) (c : Counts) (ws old : List ℕ) where
+module _ (s : Loaded) (ws old : List ℕ) where
   -- a refusal leaves all as it was
-  pub refused_held : {x : Answer} {r : Refusal} → x ≡ Refused r → widths_answer ws (length old) ≡ Outcome.refused r
-      → Answered f a c ws old old (outcome x)
+  pub refused_held : {x : Answer ℕ Refusal} {r : Refusal} → x ≡ Err r → widths_answer ws (length old) ≡ Outcome.refused r
+      → Answered s ws old old (outcome x)
   unfolding outcome
   refused_held e k = (ap outcome e ∙ sym k, λ h. rw k refl)
 
   -- the entries
-  pub wrote_held : (new : List ℕ) → widths_answer ws (length old) ≡ wrote (length ws) → EntriesHeld f a c ws old new
-      → Answered f a c ws old new (outcome (Done (length ws)))
+  pub wrote_held : (new : List ℕ) → widths_answer ws (length old) ≡ wrote (length ws) → EntriesHeld s ws old new
+      → Answered s ws old new (outcome (Ok (length ws)))
   unfolding outcome
   wrote_held new k g = (sym k, λ h. rw k (g h))
 
@@ -38,15 +38,15 @@ AnsweredBytes bytes ws old new o = (o ≡ totals_answer (read_sheet bytes) ws (l
 
 -- a refusal of reading
 pub refused_bytes : (bytes ws old : List ℕ) {r : Refusal} → read_sheet bytes ≡ Result.refused r
-    → AnsweredBytes bytes ws old old (outcome (Refused r))
+    → AnsweredBytes bytes ws old old (outcome (Err r))
 unfolding totals_answer outcome Written
 refused_bytes bytes ws old e = (rw e refl, rw e refl)
 
 -- a sheet that was loaded
-pub loaded_bytes : {bytes f₀ f a₀ a : List ℕ} {c : Counts} (l : LoadedSheet bytes f₀ f a₀ a c) (ws old new : List ℕ) (o : Outcome)
-    → Answered f a c ws old new o → AnsweredBytes bytes ws old new o
+pub loaded_bytes : {bytes f₀ a₀ : List ℕ} (s : Loaded) (l : LoadedSheet bytes f₀ s.first.now a₀ s.arcs.now s.counts) (ws old new : List ℕ) (o : Outcome)
+    → Answered s ws old new o → AnsweredBytes bytes ws old new o
 unfolding totals_answer Written
-loaded_bytes l ws old new o g = (
+loaded_bytes s l ws old new o g = (
   g.0 ∙ sym (ap (λ (x : Result). totals_answer x ws (length old)) (holds_reads l)),
   subst (λ (x : Result). Written x ws old new) (sym (holds_reads l)) (g.1 (loaded_holds l)),
 )

@@ -1,30 +1,28 @@
--- `rolls::totals` meets its contract: a refusal is the reader's, and what is answered and left for the loaded arcs is so for the bytes.
+-- `rolls::totals` meets its contract: a refusal is the reader's, and what is answered and left for the loaded sheet is so for the bytes.
+use mathlib.Core.Path.{◌≡◌, ◌∙◌, ap}
 use native.Mathlib.Omega.{arith}
+use borrow.Author.Rules.{rules}
+use Rattle.std.specs.Prelude.{Err}
 use Rattle.leb128.specs.Format.{outcome}
-use Rattle.arcs.specs.laws.HeldArcs.{loaded_holds}
-use Rattle.arcs.specs.laws.Loaded.{loaded_sheet, reader_refused}
+use Rattle.arcs.specs.laws.HeldSheets.{sheet_loaded, sheet_refused}
 use Rattle.rolls.proofs.laws.Whole.{refused_bytes, loaded_bytes}
 use Rattle.rolls.proofs.totals.Goals as goal
 
-pub totals_loaded-requires : goal.totals_loaded-requires
-totals_loaded-requires c =
-    loaded_holds
-    (loaded_sheet c.args.bytes.now _ _ c.in-Sheet.is c.load.ensures.answer
-    c.load.ensures.first c.load.ensures.arcs)
-
-pub returns-in-Refused : goal.returns-in-Refused
-returns-in-Refused c =
+pub returns-in_err-sheet : goal.returns-in_err-sheet
+returns-in_err-sheet c =
+    let refused : c.from_residual.result ≡ Err c.in_err-sheet.field-0.0 = search rules in
     let both = refused_bytes c.args.bytes.now c.args.widths.now _
-    (reader_refused c.args.bytes.now _ _ (omega arith) (omega arith) c.in-Refused.is c.load.ensures.answer) in
+    (sheet_refused c.args.bytes.now _ _ (omega arith) (omega arith) c.in_err-sheet.was c.load_sheet.ensures.answer) in
     record {
-      answer = both.0;
+      answer = ap outcome refused ∙ both.0;
       slice = both.1;
     }
 
-pub returns-in-Sheet : goal.returns-in-Sheet
-returns-in-Sheet c =
-    let both = loaded_bytes
-    (loaded_sheet c.args.bytes.now _ _ c.in-Sheet.is c.load.ensures.answer c.load.ensures.first c.load.ensures.arcs)
+pub returns : goal.returns
+returns c =
+    let both = loaded_bytes c.in_ok-sheet.sheet
+    (sheet_loaded c.args.bytes.now _ _ c.in_ok-sheet.was c.load_sheet.ensures.answer c.in_ok-sheet.ensures.first
+    c.in_ok-sheet.ensures.arcs)
     c.args.widths.now _ _ (outcome c.totals_loaded.result) (c.totals_loaded.ensures.answer, c.totals_loaded.ensures.slice) in
     record {
       answer = both.0;

@@ -1,5 +1,7 @@
 -- The answer on a good sheet, case by case, and what the first width outside its limits shows of the others.
-use Rattle.std.specs.Prelude.{ℕ, zero, suc, ◌+◌, ◌≤◌, ◌<◌, ◌≡◌, List, [], ◌∷◌, length, get_or, drop}
+use Rattle.std.specs.Prelude.{ℕ, zero, suc, ◌+◌, ◌≤◌, ◌<◌, ◌≡◌, List, [], ◌∷◌, length, get_or, drop, ltb, position, Some, None}
+use Rattle.std.specs.List.{position_or_len}
+use Rattle.std.proofs.lemmas.List.Recursion.{is_position_or_len}
 use Rattle.std.proofs.Math.Path.{refl}
 use Rattle.std.proofs.Common.{sym, ◌∙◌, ap, subst, ⊎_elim, arith, drop_of_length-le, drop-cons}
 use Rattle.std.proofs.Math.Decide.{dec_lt}
@@ -82,6 +84,30 @@ outside_next ws i l h =
 pub outside_end : (ws : List ℕ) (i : ℕ) → length ws ≤ i → first_outside (drop i ws) ≡ 0
 unfolding first_outside
 outside_end ws i l = ap first_outside (drop_of_length-le ws l)
+
+-- so it is the first position past the limit, or the length
+first_past : (ws : List ℕ) → first_outside ws ≡ position_or_len (λ w. ltb max_width w) ws
+unfolding first_outside
+first_past =
+    is_position_or_len first_outside (λ w. ltb max_width w) refl
+    λ w ws. ⊎_elim (λ (l : max_width < w). outside_first w ws l ∙ rw (lt-ltb max_width w l) refl)
+    (λ (l : w ≤ max_width). inside_first w ws l ∙ rw (le-ltb max_width w l) (omega arith)) (lt_or_le max_width w)
+
+-- where that position is found, it is the first width outside
+pub some_outside : (ws : List ℕ) {at : ℕ} → Some at ≡ position (λ w. ltb max_width w) ws → (at ≡ first_outside ws) × (at < length ws)
+some_outside ws {at} e =
+    ⊎_elim
+    (λ (l : first_outside ws < length ws). let k = rw (sym (first_past ws), lt-ltb (first_outside ws) (length ws) l) at e in
+    let same : at ≡ first_outside ws = cc in (same, omega arith))
+    (λ (l : length ws ≤ first_outside ws). let k = rw (sym (first_past ws), le-ltb (first_outside ws) (length ws) l) at e in absurd cc)
+    (lt_or_le (first_outside ws) (length ws))
+
+-- where none is found, none is outside
+pub no_outside : (ws : List ℕ) → None ≡ position (λ w. ltb max_width w) ws → length ws ≤ first_outside ws
+no_outside ws e =
+    ⊎_elim
+    (λ (l : first_outside ws < length ws). let k = rw (sym (first_past ws), lt-ltb (first_outside ws) (length ws) l) at e in absurd cc)
+    (λ (l : length ws ≤ first_outside ws). l) (lt_or_le (first_outside ws) (length ws))
 
 -- if none is outside, the first width is inside, and none behind it is outside
 first_inside : (w : ℕ) (ws : List ℕ) → length (w ∷ ws) ≤ first_outside (w ∷ ws) → (w ≤ max_width) × (length ws ≤ first_outside ws)

@@ -9,6 +9,9 @@ use lib.Seq.{sets, drop-cons}
 use borrow.Author.Tests.{lt-ltb, le-ltb}
 use Rattle.leb128.specs.Limits.{number_bytes, number_limit}
 use Rattle.leb128.specs.Number.{encode}
+use Rattle.std.specs.Prelude.{Result, Ok, Err}
+use Rattle.leb128.specs.declared.Unplaced.{Unplaced}
+use Rattle.leb128.specs.declared.Unplaced.TheVariants.{NoForm, NoRoom}
 use Rattle.leb128.specs.Grammar.{Grammar, Rule, Accepts}
 use Rattle.leb128.specs.Grammar.Form.{above}
 use Rattle.leb128.specs.Grammar.Grammar.{number, done}
@@ -17,16 +20,14 @@ use Rattle.leb128.specs.Format.{held, encoded}
 use Rattle.leb128.specs.Place.{Placing, placing, placed, written}
 use Rattle.leb128.specs.inside.Storing.{Room, Puts}
 use Rattle.leb128.specs.laws.Storing.{Left, left_begin, left_room, left_part, left_end}
-use Rattle.leb128.specs.declared.Placed.{Placed}
-use Rattle.leb128.specs.declared.Placed.TheVariants.{Next, NoForm, NoRoom}
 use Rattle.sheet.specs.Limits.{magic_bytes}
 
 -- the answer that stands for a next position
-next_answer : (answer : Placed) (k : ℕ) → placing answer ≡ Placing.next k → answer ≡ Next k
+next_answer : (answer : Result ℕ Unplaced) (k : ℕ) → placing answer ≡ Placing.next k → answer ≡ Ok k
 unfolding placing
-next_answer (Next m) k e = let same : m ≡ k = cc in ap Next same
-next_answer NoForm k e = let z : ◌≡◌ {A = ℕ} 0 1 = cc in absurd (omega arith)
-next_answer NoRoom k e = let z : ◌≡◌ {A = ℕ} 0 1 = cc in absurd (omega arith)
+next_answer (Ok m) k e = let same : m ≡ k = cc in ap Ok same
+next_answer (Err NoForm) k e = let z : ◌≡◌ {A = ℕ} 0 1 = cc in absurd (omega arith)
+next_answer (Err NoRoom) k e = let z : ◌≡◌ {A = ℕ} 0 1 = cc in absurd (omega arith)
 
 -- a number that has its form and its room is written
 module _ (old : List ℕ) (at n : ℕ) (form : n < number_limit) (room : Room old at (encode number_bytes n)) where
@@ -36,16 +37,16 @@ module _ (old : List ℕ) (at n : ℕ) (form : n < number_limit) (room : Room ol
   placed_next = rw (lt-ltb n number_limit form, le-ltb (length old) (at + length (encode number_bytes n)) room.fits)
 
   -- the number writer's answer
-  pub put_next_answer : {answer : Placed} → placing answer ≡ placed (length old) at n → answer ≡ Next (at + length (encode number_bytes n))
+  pub put_next_answer : {answer : Result ℕ Unplaced} → placing answer ≡ placed (length old) at n → answer ≡ Ok (at + length (encode number_bytes n))
   put_next_answer {answer} e = next_answer answer (at + length (encode number_bytes n)) (e ∙ placed_next)
 
   -- the number writer's answer and slice
-  pub put_done : {answer : Placed} {next : ℕ} {new : List ℕ} → answer ≡ Next next
+  pub put_done : {answer : Result ℕ Unplaced} {next : ℕ} {new : List ℕ} → answer ≡ Ok next
       → (placing answer ≡ placed (length old) at n) × (new ≡ written (placed (length old) at n) old at n)
       → Puts old at (encode number_bytes n) new next
   unfolding written
   put_done {answer} {next} e w =
-      let f : Next next ≡ Next (at + length (encode number_bytes n)) = sym e ∙ put_next_answer w.0 in
+      let f : ◌≡◌ {A = Result ℕ Unplaced} (Ok next) (Ok (at + length (encode number_bytes n))) = sym e ∙ put_next_answer w.0 in
       record { stored = rw placed_next at w.1; behind = cc }
 
 -- of the numbers of a good list those from i on are left, by a grammar, and their bytes are left to store

@@ -3,37 +3,51 @@ use Prim.Native.Nat.{ℕ, ◌+◌, ◌≤◌}
 use mathlib.Core.Path.{◌≡◌, sym, ◌∙◌, ap}
 use mathlib.Core.List.{List, ◌++◌}
 use native.Mathlib.Omega.{arith}
-use lib.ListN.{length, length-append}
-use lib.Seq.{sets}
+use lib.ListN.{length, take, drop, length-append}
+use lib.Seq.{sets, length-take-le}
+use Rattle.std.specs.Prelude.{Ok, Err}
 use Rattle.leb128.specs.Grammar.{Accepts}
 use Rattle.leb128.specs.Format.{Result, encoded, answered, filled, outcome}
 use Rattle.leb128.specs.Format.Result.{elements}
 use Rattle.leb128.specs.laws.Storing.{sets_append, sets_front}
 use Rattle.leb128.specs.laws.GoodFormat.{good_writing, answered_wrote, filled_refused, filled_elements}
 use Rattle.leb128.specs.declared.Refusal.{Refusal}
-use Rattle.leb128.specs.declared.Answer.{Answer}
-use Rattle.leb128.specs.declared.Answer.TheVariants.{Done, Refused}
 use Rattle.sheet.specs.Limits.{magic_bytes}
 use Rattle.sheet.specs.inside.Formats.{magic_of, grammar_of, read_format, write_format, FormatBytes}
 use Rattle.sheet.specs.declared.Format.{Format}
 use Rattle.sheet.proofs.laws.WalkStarts.{magic_size}
 
 -- a refusal leaves the slice as it was
-pub refused_kept : {answer : Answer} {r : Refusal} (result : Result) (old : List ℕ)
-    → outcome answer ≡ answered (length old) result → answer ≡ Refused r → old ≡ filled result old
+pub refused_kept : (r : Refusal) (result : Result) (old : List ℕ) → outcome (Err r) ≡ answered (length old) result
+    → old ≡ filled result old
 unfolding outcome
-refused_kept {r = r} result old e is = filled_refused result old r (sym e ∙ ap outcome is)
+refused_kept r result old e = filled_refused result old r (sym e)
 
-module _ {answer : Answer} {count : ℕ} (format : Format) (old : List ℕ) (is-done : answer ≡ Done count) where
-  -- the bytes are good, and their numbers have room
-  pub read_done : (bytes : List ℕ) → outcome answer ≡ answered (length old) (read_format format bytes)
-      → FormatBytes format bytes count × (count ≤ length old)
-  unfolding outcome
-  read_done bytes e =
-      let w = answered_wrote (length old) (read_format format bytes) count (sym e ∙ ap outcome is-done) in
-      (record { numbers = w.0; reads = w.1; counted = w.2 }, omega (arith, w.2, w.3))
+module _ (count : ℕ) (format : Format) (old : List ℕ) where
+  module _ (bytes : List ℕ) (e : outcome (Ok count) ≡ answered (length old) (read_format format bytes)) where
+    -- the bytes are good, and their numbers have room
+    pub read_done : FormatBytes format bytes count × (count ≤ length old)
+    unfolding outcome
+    read_done =
+        let w = answered_wrote (length old) (read_format format bytes) count (sym e) in
+        (record { numbers = w.0; reads = w.1; counted = w.2 }, omega (arith, w.2, w.3))
 
-  module _ (numbers : List ℕ) (e : outcome answer ≡ answered (length old) (write_format format numbers)) where
+    -- the front of the slice, which has room for just them
+    pub read_front : FormatBytes format bytes (length (take count old))
+    read_front = rw (length-take-le count old read_done.1) read_done.0
+
+    -- what is read goes in front of the old elements
+    pub read_filled : {front : List ℕ} → read_format format bytes ≡ elements front
+        → front ++ drop count old ≡ filled (read_format format bytes) old
+    unfolding outcome
+    read_filled {front} reads =
+        let w = answered_wrote (length old) (read_format format bytes) count (sym e) in
+        let same : elements w.0 ≡ elements front = sym w.1 ∙ reads in
+        let front_is : w.0 ≡ front = cc in
+        ap (λ (n : ℕ). front ++ drop n old) (w.2 ∙ ap length front_is)
+        ∙ sym (filled_elements old reads (omega (arith, ap length front_is, w.3)))
+
+  module _ (numbers : List ℕ) (e : outcome (Ok count) ≡ answered (length old) (write_format format numbers)) where
     -- the list is good, and its bytes have room
     pub record Writable : Type 0 where
       pub accepted : Accepts (grammar_of format) numbers
@@ -44,7 +58,7 @@ module _ {answer : Answer} {count : ℕ} (format : Format) (old : List ℕ) (is-
     pub write_done : Writable
     unfolding outcome
     write_done =
-        let w = answered_wrote (length old) (write_format format numbers) count (sym e ∙ ap outcome is-done) in
+        let w = answered_wrote (length old) (write_format format numbers) count (sym e) in
         let g = good_writing (magic_of format) (grammar_of format) numbers w.0 w.1 in
         let size = length-append (magic_of format) (encoded (grammar_of format) numbers) in
         record {

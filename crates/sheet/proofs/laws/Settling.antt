@@ -8,46 +8,18 @@ use native.Mathlib.Omega.{arith}
 use lib.ListN.{length, length-append}
 use lib.Dec.{ltb}
 use borrow.Author.Tests.{lt-ltb, le-ltb}
-use Rattle.leb128.specs.Refusals.{something_follows, slice_short}
+use Rattle.leb128.specs.Refusals.{slice_short}
 use Rattle.leb128.specs.Grammar.{Grammar}
 use Rattle.leb128.specs.Source.{refusal}
 use Rattle.leb128.specs.Walk.{Walk}
 use Rattle.leb128.specs.Walk.Walk.{whole, refused}
 use Rattle.leb128.specs.Format.{Outcome, complete, walk_bytes, walk_list, encoded, made, reading, writing, answered}
 use Rattle.leb128.specs.laws.Cases.{lt_or_le}
-use Rattle.leb128.specs.declared.Refusal.{Refusal}
 use Rattle.sheet.specs.Limits.{magic_bytes}
-use Rattle.sheet.specs.inside.Cursor.{Measure, weigh, measured, ended, settled, walked}
+use Rattle.sheet.specs.inside.Cursor.{Measure, weigh, measured, ended, settled}
 use Rattle.sheet.specs.inside.Formats.{magic_of, grammar_of, measured_bytes, measured_list, read_format, write_format}
-use Rattle.sheet.specs.declared.Cursor.{Cursor}
 use Rattle.sheet.specs.declared.Format.{Format}
-use Rattle.sheet.specs.declared.Step.{Step}
-use Rattle.sheet.specs.declared.Step.TheVariants.{Value, Refused}
 use Rattle.sheet.proofs.laws.WalkStarts.{magic_size}
-
-module _ {last : Step} (end room : ℕ) where
-  -- a refusal of the walk stays
-  pub settled_refused : {r : Refusal} → last ≡ Refused r → Outcome.refused r ≡ settled room (ended end (walked last))
-  unfolding ended settled
-  settled_refused e = rw e
-
-  module _ {n : ℕ} {c : Cursor} (e : last ≡ Value n c) where
-    -- something follows
-    pub settled_follows : c.at < end
-        → Outcome.refused (refusal something_follows c.at) ≡ settled room (ended end (walked last))
-    unfolding ended settled
-    settled_follows h = rw (e, lt-ltb c.at end h)
-
-    module _ (whole-input : end ≤ c.at) where
-      -- the slice is too short
-      pub settled_short : room < c.count → Outcome.refused (refusal slice_short 0) ≡ settled room (ended end (walked last))
-      unfolding ended settled
-      settled_short h = rw (e, le-ltb c.at end whole-input, lt-ltb room c.count h)
-
-      -- all is well
-      pub settled_done : c.count ≤ room → Outcome.wrote c.count ≡ settled room (ended end (walked last))
-      unfolding ended settled
-      settled_done h = rw (e, le-ltb c.at end whole-input, le-ltb room c.count h)
 
 -- a measure ends as its walk does
 measured_complete : (encoded : Bool) (count stop : ℕ) (grammar : Grammar) (walk : Walk)

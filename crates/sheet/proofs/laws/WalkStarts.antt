@@ -1,13 +1,19 @@
 -- Where a walk starts, case by case: the magic of the bytes, and the front of a list.
 use Prim.Native.Nat.{ℕ, ◌≤◌, ◌<◌}
-use mathlib.Core.Path.{◌≡◌, refl}
-use mathlib.Core.Bool.{true, false, ◌&&◌, and-true}
-use mathlib.Core.List.{List, [], ◌∷◌}
+use mathlib.Core.Path.{◌≡◌, refl, sym, ◌∙◌, ap}
+use mathlib.Core.Bool.{Bool, true, false}
+use mathlib.Core.List.{List, [], ◌∷◌, ◌++◌}
 use native.Mathlib.Omega.{arith}
-use lib.ListN.{length, get_or, take, set}
+use lib.ListN.{length, take, drop}
 use lib.Seq.{sets}
 use lib.Dec.{eqb}
-use borrow.Author.Tests.{lt-ltb, le-ltb}
+use borrow.Author.Tests.{lt-ltb, le-ltb, ne_eqb}
+use mathlib.Core.Logic.{⊎_elim}
+use Rattle.leb128.specs.laws.Cases.{eq_or_ne}
+use lib.Pointwise.{pointwise}
+use Rattle.std.proofs.Common.{Bor}
+use Rattle.sheet.specs.declared.Input.TheVariants.{Bytes, Numbers}
+use Rattle.leb128.specs.laws.Storing.{sets_front}
 use Rattle.leb128.specs.Refusals.{input_ended, other_magic}
 use Rattle.leb128.specs.Source.{refusal}
 use Rattle.leb128.specs.Format.{same, walk_bytes, walk_list}
@@ -17,33 +23,38 @@ use Rattle.sheet.specs.inside.Formats.{magic_of, grammar_of, measured_bytes, mea
 use Rattle.sheet.specs.declared.Format.{Format}
 use Rattle.sheet.specs.declared.Format.TheVariants.{Sheet, Coordinates}
 
--- a magic, byte by byte
-pub magic_compared : (bytes magic : List ℕ) → magic_bytes ≤ length bytes → length magic ≡ magic_bytes
-    → same (take magic_bytes bytes) magic ≡ (eqb (get_or bytes 0 0) (get_or magic 0 0)
-    && (eqb (get_or bytes 1 0) (get_or magic 1 0) && eqb (get_or bytes 2 0) (get_or magic 2 0)))
-unfolding same
-magic_compared (a ∷ b ∷ c ∷ rest) (x ∷ y ∷ z ∷ []) h e = rw and-true
-magic_compared (a ∷ b ∷ c ∷ rest) (x ∷ y ∷ z ∷ w ∷ more) h e = absurd (omega arith)
-magic_compared (a ∷ b ∷ c ∷ rest) (x ∷ y ∷ []) h e = absurd (omega arith)
-magic_compared (a ∷ b ∷ c ∷ rest) (x ∷ []) h e = absurd (omega arith)
-magic_compared (a ∷ b ∷ c ∷ rest) [] h e = absurd (omega arith)
-magic_compared (a ∷ b ∷ []) magic h e = absurd (omega arith)
-magic_compared (a ∷ []) magic h e = absurd (omega arith)
-magic_compared [] magic h e = absurd (omega arith)
+-- equality is a test of both alike
+eqb_sym : (a b : ℕ) → eqb a b ≡ eqb b a
+eqb_sym a b =
+    ⊎_elim
+    (λ (e : a ≡ b). rw e)
+    (λ (n : a ≡ b → ⊥). ne_eqb a b n ∙ sym (ne_eqb b a (λ (e : b ≡ a). n (sym e))))
+    (eq_or_ne a b)
 
--- a magic, stored byte by byte
-pub magic_stored : (old magic : List ℕ) → length magic ≡ magic_bytes
-    → set (set (set old 0 (get_or magic 0 0)) 1 (get_or magic 1 0)) 2 (get_or magic 2 0) ≡ sets old 0 magic
-magic_stored old (x ∷ y ∷ z ∷ []) e = refl
-magic_stored old (x ∷ y ∷ z ∷ w ∷ more) e = absurd (omega arith)
-magic_stored old (x ∷ y ∷ []) e = absurd (omega arith)
-magic_stored old (x ∷ []) e = absurd (omega arith)
-magic_stored old [] e = absurd (omega arith)
+-- a magic is compared pair by pair; the test does not go by which of the two stands first
+pub magic_compared : (magic front : List ℕ) → pointwise eqb magic front ≡ same front magic
+unfolding same
+magic_compared [] [] = refl
+magic_compared [] (y ∷ ys) = refl
+magic_compared (x ∷ xs) [] = refl
+magic_compared (x ∷ xs) (y ∷ ys) = rw (eqb_sym x y, magic_compared xs ys)
+
+-- a magic, stored in front
+pub magic_stored : (old magic : List ℕ) → length magic ≡ magic_bytes → magic_bytes ≤ length old
+    → magic ++ drop magic_bytes old ≡ sets old 0 magic
+magic_stored old magic e h = sym (rw e at (sets_front magic old (omega arith)))
 
 -- how long a format's magic is
 pub magic_size : (format : Format) → length (magic_of format) ≡ magic_bytes
 magic_size Sheet = refl
 magic_size Coordinates = refl
+
+-- the test of a format's magic
+pub magic_tested : (format : Format) (bytes : List ℕ) {answer : Bool}
+    → answer ≡ pointwise eqb (magic_of format) (take (length (magic_of format)) bytes)
+    → same (take magic_bytes bytes) (magic_of format) ≡ answer
+magic_tested format bytes e =
+    sym (e ∙ magic_compared (magic_of format) (take (length (magic_of format)) bytes) ∙ ap (λ (n : ℕ). same (take n bytes) (magic_of format)) (magic_size format))
 
 module _ (format : Format) (bytes : List ℕ) where
   -- the magic is not whole
@@ -58,16 +69,17 @@ module _ (format : Format) (bytes : List ℕ) where
     unfolding walk_bytes measured
     opens_not e = rw (magic_size format, le-ltb (length bytes) magic_bytes long, e)
 
-    -- the walk along bytes starts behind the magic
-    pub bytes_walked : (numbers : List ℕ) (answer : Measure) → same (take magic_bytes bytes) (magic_of format) ≡ true
-        → answer ≡ walk_from bytes numbers (record { encoded = true; at = magic_bytes; count = 0 }) (grammar_of format)
-        → answer ≡ measured_bytes format bytes
-    unfolding walk_bytes walk_from
-    bytes_walked numbers answer e w = rw (magic_size format, le-ltb (length bytes) magic_bytes long, e) w
+-- the walk along bytes starts behind the magic
+pub bytes_walked : (format : Format) (bytes : Bor (List ℕ)) (answer : Measure) → magic_bytes ≤ length bytes.now
+    → same (take magic_bytes bytes.now) (magic_of format) ≡ true
+    → answer ≡ walk_from (Bytes bytes) (record { at = magic_bytes; count = 0 }) (grammar_of format)
+    → answer ≡ measured_bytes format bytes.now
+unfolding walk_bytes walk_from
+bytes_walked format bytes answer long e w = rw (magic_size format, le-ltb (length bytes.now) magic_bytes long, e) w
 
 -- the walk along a list starts at its front
-pub list_walked : (format : Format) (bytes numbers : List ℕ) (answer : Measure)
-    → answer ≡ walk_from bytes numbers (record { encoded = false; at = 0; count = magic_bytes }) (grammar_of format)
-    → answer ≡ measured_list format numbers
+pub list_walked : (format : Format) (numbers : Bor (List ℕ)) (answer : Measure)
+    → answer ≡ walk_from (Numbers numbers) (record { at = 0; count = magic_bytes }) (grammar_of format)
+    → answer ≡ measured_list format numbers.now
 unfolding walk_list walk_from
-list_walked format bytes numbers answer w = w
+list_walked format numbers answer w = w

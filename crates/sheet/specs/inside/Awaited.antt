@@ -1,46 +1,55 @@
 -- How far a coordinate file is read, and what the grammar says of the rest.
-use Rattle.std.specs.Prelude.{ℕ, zero, suc, ◌+◌, ◌-◌, ◌≤◌, min, Bool, true, false, cond, ltb, eqb}
-use Rattle.leb128.specs.Grammar.{Form, Grammar, within}
-use Rattle.leb128.specs.Grammar.Grammar.{number}
+use Rattle.std.specs.Prelude.{ℕ, zero, suc, ◌+◌, ◌-◌, ◌≤◌, min, Bool, true, cond, leb, ltb}
+use Rattle.leb128.specs.Grammar.{Form, Grammar, plain, within}
+use Rattle.leb128.specs.Grammar.Grammar.{number, done}
 use Rattle.sheet.specs.Limits.{max_layers, max_layer_nodes, max_nodes, max_coordinate}
-use Rattle.sheet.specs.Coordinates.{right_nodes, layer_coordinates, coordinates}
 use Rattle.sheet.specs.declared.Range.{Range}
 use Rattle.sheet.specs.declared.Awaited.{Awaited}
-
--- nothing is read
-abbrev pub beginning : Awaited
-beginning = record { begun = false; layers = 0; nodes = 0; room = 0; base = 0; low = 0 }
+use Rattle.sheet.specs.declared.Awaited.TheVariants.{Layers, Layer, Node}
 
 -- n nodes of a layer, the first of them at low or right of it
 unfoldable pub nodes_from : ℕ → ℕ → ℕ → Grammar → Grammar
 nodes_from zero base low next = next
-nodes_from (suc n) base low next = number (Form.above base) (within low max_coordinate) λ place. right_nodes n place next
+nodes_from (suc n) base low next = number (Form.above base) (within low max_coordinate) λ place. nodes_from n place (place + 1) next
+
+-- n layers, of at most room nodes
+unfoldable pub layers_from : ℕ → ℕ → Grammar
+layers_from zero room = done
+layers_from (suc n) room =
+    number plain (within 1 (min max_layer_nodes room)) λ nodes.
+    number plain (within 0 max_coordinate) λ place.
+    nodes_from (nodes - 1) place (place + 1) (layers_from n (room - nodes))
 
 -- the grammar of what is not yet read
 unfoldable pub rest : Awaited → Grammar
-rest s = cond s.begun (nodes_from s.nodes s.base s.low (layer_coordinates s.layers s.room)) coordinates
+rest Layers = number plain (within 1 max_layers) λ n. layers_from n max_nodes
+rest (Layer layers room) = layers_from layers room
+rest (Node layers room nodes base low) = nodes_from nodes base low (layers_from layers room)
 
 -- whether a number comes next
-unfoldable pub more : Awaited → Bool
-more s = cond s.begun (cond (eqb s.nodes 0) (ltb 0 s.layers) true) true
+abbrev pub more : Awaited → Bool
+more Layers = true
+more (Layer layers room) = ltb 0 layers
+more (Node layers room nodes base low) = true
 
 -- the range of the number that comes next: the count of layers, a layer's count of nodes, or a node's coordinate
-unfoldable pub range_of : Awaited → Range
-range_of s =
-    cond s.begun
-    (cond (eqb s.nodes 0) (record { base = 0; low = 1; high = min max_layer_nodes s.room })
-    (record { base = s.base; low = s.low; high = max_coordinate }))
-    (record { base = 0; low = 1; high = max_layers })
+abbrev pub range_of : Awaited → Range
+range_of Layers = record { base = 0; low = 1; high = max_layers }
+range_of (Layer layers room) = record { base = 0; low = 1; high = min max_layer_nodes room }
+range_of (Node layers room nodes base low) = record { base = base; low = low; high = max_coordinate }
 
 -- what comes behind the number
-unfoldable pub behind : Awaited → ℕ → Awaited
-behind s n =
-    cond s.begun
-    (cond (eqb s.nodes 0)
-    (record { begun = true; layers = s.layers - 1; nodes = n; room = s.room - n; base = 0; low = 0 })
-    (record { begun = true; layers = s.layers; nodes = s.nodes - 1; room = s.room; base = n; low = n + 1 }))
-    (record { begun = true; layers = n; nodes = 0; room = max_nodes; base = 0; low = 0 })
+abbrev pub behind : Awaited → ℕ → Awaited
+behind Layers n = Layer n max_nodes
+behind (Layer layers room) n = Node (layers - 1) (room - n) n 0 0
+behind (Node layers room nodes base low) n = cond (leb nodes 1) (Layer layers room) (Node layers room (nodes - 1) n (n + 1))
 
 -- the number is in its range
 abbrev pub InRange : Awaited → ℕ → Type 0
 InRange s n = ((range_of s).low ≤ n) × (n ≤ (range_of s).high)
+
+-- a node is to come, its base is a coordinate, and it is not left of that
+abbrev pub Steady : Awaited → Type 0
+Steady Layers = Unit
+Steady (Layer layers room) = Unit
+Steady (Node layers room nodes base low) = (1 ≤ nodes) × (base ≤ low) × (base ≤ max_coordinate)

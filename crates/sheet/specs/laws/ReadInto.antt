@@ -1,6 +1,7 @@
 -- What the reader's answer and slice say of the bytes: what was read stands in front of the slice and is good, and where every
 -- sheet has room, a refusal is that of the bytes.
-use Rattle.std.specs.Prelude.{ℕ, ◌-◌, ◌≤◌, ◌≡◌, refl, List, ◌++◌, length, take, drop}
+use Rattle.std.specs.Prelude.{Result as Answer, Ok, Err}
+use Rattle.std.specs.Prelude.{ℕ, ◌≤◌, ◌≡◌, refl, List, ◌++◌, length, take, drop}
 use Rattle.std.proofs.Common.{sym, ◌∙◌, arith, length-append, take_at, le-ltb}
 use Rattle.std.proofs.Math.Path.{ap}
 use Rattle.leb128.specs.Format.{Result, Outcome, outcome, answered, filled}
@@ -8,8 +9,6 @@ use Rattle.leb128.specs.Format.Result.{elements}
 use Rattle.leb128.specs.Grammar.{Accepts}
 use Rattle.leb128.specs.laws.GoodFormat.{answered_wrote, filled_elements}
 use Rattle.leb128.specs.declared.Refusal.{Refusal}
-use Rattle.leb128.specs.declared.Answer.{Answer}
-use Rattle.leb128.specs.declared.Answer.TheVariants.{Done, Refused}
 use Rattle.sheet.specs.Limits.{max_numbers}
 use Rattle.sheet.specs.Grammar.{sheet}
 use Rattle.sheet.specs.Reading.{read_sheet}
@@ -26,9 +25,9 @@ answered_refused room (elements es) {r} fits e =
 answered_refused room (Result.refused s) {r} fits e = let are : s ≡ r = cc in ap Result.refused are
 
 -- what the reader answered and left
-module _ {answer : Answer} (bytes old new : List ℕ) (e : outcome answer ≡ answered (length old) (read_sheet bytes))
+module _ {answer : Answer ℕ Refusal} (bytes old new : List ℕ) (e : outcome answer ≡ answered (length old) (read_sheet bytes))
     (f : new ≡ filled (read_sheet bytes) old) where
-  module _ {count : ℕ} (is : answer ≡ Done count) where
+  module _ {count : ℕ} (is : answer ≡ Ok count) where
     -- the numbers that were read, how many they are, and that they have room
     done : (es : List ℕ) × (read_sheet bytes ≡ elements es) × (count ≡ length es) × (length es ≤ length old)
     unfolding outcome
@@ -43,18 +42,16 @@ module _ {answer : Answer} (bytes old new : List ℕ) (e : outcome answer ≡ an
     read_room = omega (arith, ap length front ∙ length-append done.0 (drop (length done.0) old), done.2)
 
     -- the front of the slice is what reading gives
-    pub read_is : read_sheet bytes ≡ elements (take (count - 0) new)
+    pub read_is : read_sheet bytes ≡ elements (take count new)
     read_is =
-        let none : count - 0 ≡ count = omega arith in
-        let numbers : take (count - 0) new ≡ done.0 =
-        ap (λ (n : ℕ). take n new) none ∙ ap (take count) front ∙ take_at done.0 (drop (length done.0) old) count (sym done.2) in
+        let numbers : take count new ≡ done.0 = ap (take count) front ∙ take_at done.0 (drop (length done.0) old) count (sym done.2) in
         done.1 ∙ ap elements (sym numbers)
 
     -- it is a good sheet's
-    pub read_good : Accepts sheet (take (count - 0) new)
-    read_good = read_accepted bytes (take (count - 0) new) read_is
+    pub read_good : Accepts sheet (take count new)
+    read_good = read_accepted bytes (take count new) read_is
 
-  module _ (room : max_numbers ≤ length old) {r : Refusal} (is : answer ≡ Refused r) where
+  module _ (room : max_numbers ≤ length old) {r : Refusal} (is : answer ≡ Err r) where
     -- the refusal is that of the bytes
     pub read_refused : read_sheet bytes ≡ Result.refused r
     unfolding outcome

@@ -1,26 +1,16 @@
--- `totals::add_all` meets its contract: the loop's invariant is `Adding`.
-use Prim.Native.Nat.{ℕ, ◌+◌, min}
-use mathlib.Core.Path.{◌∙◌, ap}
-use native.Mathlib.Omega.{arith}
-use Rattle.leb128.specs.Words.{u32_most}
-use Rattle.totals.proofs.laws.Adding.{adding_begin, adding_next, adding_end}
+-- `totals::add_all` meets its contract: the sum is that of the edges passed.
+use Rattle.std.proofs.Common.{ℕ, ap, add-one, arith}
+use Rattle.network.specs.Sums.{sum_to}
+use Rattle.packed.specs.Ends.{edge_from}
+use Rattle.totals.specs.Lengths.{counted_at}
 use Rattle.totals.proofs.add_all.Goals as goal
 
 pub loop-i-init : goal.loop-i-init
-loop-i-init c = adding_begin _ _
-
-pub capped-sum-requires : goal.capped-sum-requires
-capped-sum-requires c = omega (arith, c.loop-i.invariant.is)
-
-pub overflow_add-i : goal.overflow_add-i
-overflow_add-i c = omega arith
-
-pub loop-i-smaller : goal.loop-i-smaller
-loop-i-smaller c = omega arith
+unfolding sum_to
+loop-i-init c = omega arith
 
 pub loop-i-preserved : goal.loop-i-preserved
+unfolding sum_to
 loop-i-preserved c =
-    adding_next c.loop-i.invariant (omega arith) (c.capped-sum.ensures ∙ ap (λ (x : ℕ). min u32_most (c.loop-i.sum + x)) c.counted.ensures)
-
-pub returns : goal.returns
-returns c = adding_end c.loop-i.invariant (omega arith)
+    let f : ℕ → ℕ = λ k. counted_at c.args.places.now (edge_from k c.args.edges.now) in
+    omega (arith, c.loop-i.invariant, c.capped-sum.ensures, c.counted.ensures, ap (λ (n : ℕ). sum_to n f) (add-one c.loop-i.i))

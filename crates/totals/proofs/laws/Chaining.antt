@@ -1,22 +1,18 @@
 -- Chaining edge after edge: no edge is chained at first, and one more becomes the last of its chain, with the former last one before it.
 -- And which edges can be chained.
-use Prim.Native.Nat.{ℕ, ◌+◌, ◌/◌, ◌≤◌, ◌<◌}
-use mathlib.Core.Path.{◌≡◌, refl, sym, ◌∙◌, ap, subst}
+use Prim.Native.Nat.{ℕ, ◌/◌, ◌≤◌, ◌<◌}
+use mathlib.Core.Path.{◌≡◌, sym, ◌∙◌, ap, subst}
 use mathlib.Core.Bool.{Bool, true, false}
-use mathlib.Core.Logic.{⊎_elim}
 use mathlib.Core.List.{List}
 use native.Mathlib.Omega.{arith}
 use lib.Dec.{T, leb, le→leb, ltb, ltb→lt, lt→ltb}
-use lib.ListN.{length, get_or, set, replicate, length-set, length-replicate, get_or-replicate}
-use lib.Seq.{get_or-set_same, get_or-set_other}
-use borrow.Author.Tests.{lt-leb}
-use Rattle.leb128.specs.laws.Cases.{eq_or_ne}
-use Rattle.sheet.specs.Limits.{max_nodes, max_edges}
+use lib.ListN.{length, get_or, replicate, length-replicate, get_or-replicate}
+use Rattle.sheet.specs.Limits.{max_edges}
 use Rattle.network.specs.Sums.{below}
 use Rattle.network.specs.Packed.{stride}
 use Rattle.network.specs.laws.Tests.{and_right, and_both, is_true, is_false, fails, below_at, at_below}
 use Rattle.totals.specs.RunningSums.{chainable}
-use Rattle.totals.specs.inside.Chains.{links, linked, lower_of, start_of, Last, Chained}
+use Rattle.totals.specs.inside.Chains.{links, lower_of, Last, Chained}
 
 -- no edge is chained yet
 pub chained_begin : (starts s : List ℕ) {chains : List ℕ} → chains ≡ replicate links 0 → Chained starts s 0 chains
@@ -31,72 +27,6 @@ chained_begin starts s e = record {
     none : {v link : ℕ} → link ≡ 0 → Last starts s v 0 link
     none e = record { inside = omega arith; ends = λ i f. absurd (omega arith); none = λ i l h f. omega arith }
 
-module _ (starts s : List ℕ) (n : ℕ) where
-  -- an edge is the last of its own chain
-  new_last : {v : ℕ} → start_of starts s n ≡ v → Last starts s v (n + 1) (n + 1)
-  new_last {v} e = record {
-    inside = omega arith;
-    ends = λ i f. let same : n ≡ i = omega arith in ap (start_of starts s) (sym same) ∙ e;
-    none = λ i l h f. omega arith;
-  }
-
-  -- every other chain keeps its last edge
-  same_last : {v link : ℕ} → Last starts s v n link → (start_of starts s n ≡ v → ⊥) → Last starts s v (n + 1) link
-  same_last {v} l ne = record {
-    inside = omega (arith, l.inside);
-    ends = l.ends;
-    none = λ i a b f.
-        ⊎_elim
-        (λ (same : i ≡ n). ne (subst (λ (k : ℕ). start_of starts s k ≡ v) same f))
-        (λ (other : i ≡ n → ⊥). l.none i a (omega arith) f)
-        (eq_or_ne i n);
-  }
-
-module _ {starts s chains : List ℕ} {n start : ℕ} (c : Chained starts s n chains) (few : n < max_edges) (low : lower_of s n < length starts)
-    (e : start ≡ start_of starts s n) (inside : start < max_nodes) where
-  -- the links with that of the new edge
-  abbrev between : List ℕ
-  between = set chains (max_nodes + n) (get_or chains start 0)
-
-  -- there are as many
-  size : length between ≡ links
-  size = length-set chains (max_nodes + n) (get_or chains start 0) ∙ c.size
-
-  -- the chain of the new edge has a new last edge, the others keep theirs
-  lasts : (v : ℕ) → v < max_nodes → Last starts s v (n + 1) (get_or (linked chains start n) v 0)
-  lasts v h =
-      ⊎_elim
-      (λ (same : v ≡ start). rw (same, get_or-set_same between start (n + 1) 0 (omega (arith, size))) (new_last starts s n (sym e)))
-      (λ (other : v ≡ start → ⊥).
-      rw (
-        get_or-set_other between start v (n + 1) 0 other,
-        get_or-set_other chains (max_nodes + n) v (get_or chains start 0) 0 (λ f. omega arith),
-      )
-      (same_last starts s n (c.lasts v h) (λ f. other (sym (e ∙ f)))))
-      (eq_or_ne v start)
-
-  -- the new edge has the former last one before it
-  befores : (i : ℕ) → i < n + 1 → Last starts s (start_of starts s i) i (get_or (linked chains start n) (max_nodes + i) 0)
-  befores i h =
-      rw (get_or-set_other between start (max_nodes + i) (n + 1) 0 (λ f. omega arith))
-      (⊎_elim
-      (λ (same : i ≡ n).
-      rw (same, get_or-set_same chains (max_nodes + n) (get_or chains start 0) 0 (omega (arith, c.size)), ← e) (c.lasts start inside))
-      (λ (other : i ≡ n → ⊥).
-      rw (get_or-set_other chains (max_nodes + n) (max_nodes + i) (get_or chains start 0) 0 (λ f. other (omega arith)))
-      (c.befores i (omega arith)))
-      (eq_or_ne i n))
-
-  -- one more edge is chained
-  pub chained_next : Chained starts s (n + 1) (linked chains start n)
-  chained_next = record {
-    size = length-set between start (n + 1) ∙ size;
-    few = omega arith;
-    low = λ i h. ⊎_elim (λ (same : i ≡ n). rw same low) (λ (other : i ≡ n → ⊥). c.low i (omega arith)) (eq_or_ne i n);
-    lasts = lasts;
-    befores = befores;
-  }
-
 module _ (n : ℕ) (s : List ℕ) where
   -- the test of a lower end
   abbrev lies : ℕ → Bool
@@ -105,10 +35,6 @@ module _ (n : ℕ) (s : List ℕ) where
   -- the test of the count
   abbrev few : Bool
   few = leb (length s / stride) max_edges
-
-  -- too many edges
-  pub too_many : max_edges < length s / stride → false ≡ chainable n s
-  too_many h = rw (lt-leb (length s / stride) max_edges h) refl
 
   -- a lower end that is none of the n nodes
   pub no_node : {i : ℕ} → i < length s / stride → n ≤ lower_of s i → false ≡ chainable n s

@@ -1,6 +1,6 @@
 -- Layer by layer: the chain of a layer comes to what is between its first node and the next layer's, so the running sum of a layer becomes
 -- that of the one above it, from 0 behind the last layer to the total after the first.
-use Prim.Native.Nat.{ℕ, ◌+◌, ◌-◌, ◌/◌, ◌≤◌, ◌<◌, min}
+use Prim.Native.Nat.{ℕ, ◌+◌, ◌/◌, ◌≤◌, ◌<◌, min}
 use mathlib.Core.Path.{◌≡◌, ◌∙◌, ap}
 use mathlib.Core.List.{List}
 use native.Mathlib.Omega.{arith}
@@ -12,12 +12,12 @@ use Rattle.network.specs.Packed.{stride}
 use Rattle.network.specs.laws.SumsTo.{sum_to_eq}
 use Rattle.leb128.specs.Words.{u32_most}
 use Rattle.packed.specs.Ends.{edge_from}
-use Rattle.totals.specs.Lengths.{counted_at, lengths_of, lengths_from, lengths_between}
+use Rattle.totals.specs.Lengths.{counted_at, lengths_between}
 use Rattle.totals.specs.RunningSums.{layer_start, rises, RunningSum}
 use Rattle.totals.specs.inside.Chains.{lower_of, LayerChains}
-use Rattle.totals.specs.laws.LowerEnds.{from_all, from_none, from_parts}
-use Rattle.totals.proofs.laws.Starts.{starts_zero, starts_rise, starts_node, start_in}
-use Rattle.totals.proofs.laws.Walking.{term, Walking, walking_begin, walking_there, walking_less, walking_next, walking_end}
+use Rattle.totals.specs.laws.LowerEnds.{from_none, from_parts}
+use Rattle.totals.proofs.laws.Starts.{starts_rise, starts_node, start_in}
+use Rattle.totals.proofs.laws.Walking.{term, Walking, walking_begin, walking_next, walking_end}
 
 -- on the way along a layer's chain
 pub record LayerWalk (first p s chains : List ℕ) (layer sum link r : ℕ) : Type 0 where
@@ -40,24 +40,18 @@ walk_begin {first} {chains = chains} p t c h k l e f = record {
 }
 
 module _ {first p s chains : List ℕ} {layer sum link r : ℕ} (w : LayerWalk first p s chains layer sum link r) where
-  -- the link leads to an edge whose own link is there
-  pub walk_there : 0 < link → max_nodes + (link - 1) < length chains
-  walk_there h = omega (arith, walking_there w.held.chained w.walking h, w.held.chained.few, w.held.chained.size)
-
-  -- the next link leads to an earlier edge
-  pub walk_less : {next : ℕ} → 0 < link → next ≡ get_or chains (max_nodes + (link - 1)) 0 → next < link
-  walk_less = walking_less w.held.chained w.walking
-
-  -- one edge more
-  pub walk_next : {next r' : ℕ} → 0 < link → r' ≡ min u32_most (r + counted_at p (edge_from (link - 1) s))
-      → next ≡ get_or chains (max_nodes + (link - 1)) 0 → LayerWalk first p s chains layer sum next r'
-  walk_next h e f = record {
-    rise = w.rise;
-    held = w.held;
-    some = w.some;
-    there = w.there;
-    walking = walking_next w.held.chained w.walking h e f;
-  }
+  -- the link leads to edge i
+  module _ (i : ℕ) (is : link ≡ i + 1) where
+    -- one edge more
+    pub walk_next : {next r' : ℕ} → r' ≡ min u32_most (r + counted_at p (edge_from i s))
+        → next ≡ get_or chains (max_nodes + i) 0 → LayerWalk first p s chains layer sum next r'
+    walk_next e f = record {
+      rise = w.rise;
+      held = w.held;
+      some = w.some;
+      there = w.there;
+      walking = walking_next w.held.chained w.walking i is e f;
+    }
 
   -- the chain comes to what is between the layer's first node and the next layer's
   chain_sum : sum_to (length s / stride) (term p w.held.starts s (layer_start first layer))
@@ -84,14 +78,3 @@ module _ (first p s : List ℕ) where
   layers_begin c =
       let behind : layer_start first (length first + 1) ≡ max_nodes = get_or-eq_default first max_nodes (omega arith) in
       rw behind (omega (arith, from_none p s max_nodes (λ i l. omega (arith, c.chained.low i l, c.of.size))))
-
-  -- the layer above is the next one
-  pub layers_next : {layer sum : ℕ} → 0 < layer → RunningSum first p s layer sum → RunningSum first p s (layer - 1 + 1) sum
-  layers_next {layer} h e = let back : layer - 1 + 1 ≡ layer = omega arith in rw back e
-
-  -- after the first layer everything is counted
-  pub layers_end : {layer sum : ℕ} → T (rises first) → layer ≡ 0 → RunningSum first p s (layer + 1) sum
-      → sum ≡ min u32_most (lengths_of p s)
-  layers_end {layer} t h e =
-      let none : layer_start first (layer + 1) ≡ 0 = ap (λ (k : ℕ). layer_start first (k + 1)) h ∙ starts_zero first t in
-      e ∙ ap (min u32_most) (ap (λ (v : ℕ). lengths_from v p s) none ∙ from_all p s)

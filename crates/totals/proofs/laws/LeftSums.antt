@@ -1,19 +1,19 @@
 -- The sums that are left: every layer that was added has its sum in its element, and all other elements are old.
-use Prim.Native.Nat.{ℕ, ◌+◌, ◌-◌, ◌≤◌, ◌<◌, min}
+use Prim.Native.Nat.{ℕ, ◌+◌, ◌≤◌, ◌<◌, min}
 use mathlib.Core.Path.{◌≡◌, refl, sym, ◌∙◌, ap, ap₂}
 use mathlib.Core.Bool.{Bool, true, false, cond, ◌&&◌}
 use mathlib.Core.Logic.{⊎_elim}
 use mathlib.Core.List.{List}
 use native.Mathlib.Omega.{arith}
 use lib.Dec.{ltb}
-use lib.ListN.{length, get_or, set, length-set}
-use lib.Seq.{get_or-set_same, get_or-set_other, ext_get_or}
+use lib.ListN.{length, get_or}
+use lib.Seq.{ext_get_or}
 use borrow.Author.Tests.{lt-ltb, le-ltb}
-use Rattle.leb128.specs.laws.Cases.{eq_or_ne, lt_or_le}
+use Rattle.leb128.specs.laws.Cases.{lt_or_le}
 use Rattle.sheet.specs.Limits.{max_nodes}
 use Rattle.network.specs.Sums.{upto}
 use Rattle.network.specs.laws.Indexed.{upto_length, upto_in}
-use Rattle.totals.specs.RunningSums.{sum_after, RunningSum, rises, chainable, with_sums, left_sums}
+use Rattle.totals.specs.RunningSums.{sum_after, rises, chainable, with_sums, left_sums}
 
 -- the layers behind this one have their sums
 pub record SumsFrom (first p s old sums : List ℕ) (layer : ℕ) : Type 0 where
@@ -32,26 +32,6 @@ sums_begin first p s old = record {
 }
 
 module _ {first p s old sums : List ℕ} {layer : ℕ} (w : SumsFrom first p s old sums layer) where
-  -- one layer more
-  pub sums_next : (sum : ℕ) → 0 < layer → layer ≤ length first → RunningSum first p s layer sum
-      → SumsFrom first p s old (set sums (layer - 1) sum) (layer - 1)
-  sums_next sum h k e = record {
-    size = length-set sums (layer - 1) sum ∙ w.size;
-    above = λ i a b c.
-        ⊎_elim
-        (λ (same : i ≡ layer - 1).
-        let at : i + 1 ≡ layer = omega arith in
-        ap (λ (j : ℕ). get_or (set sums (layer - 1) sum) j 0) same
-        ∙ get_or-set_same sums (layer - 1) sum 0 (omega (arith, w.size))
-        ∙ e
-        ∙ ap (sum_after first p s) (sym at))
-        (λ (other : i ≡ layer - 1 → ⊥).
-        get_or-set_other sums (layer - 1) i sum 0 other ∙ w.above i a (omega arith) c)
-        (eq_or_ne i (layer - 1));
-    below = λ i a. get_or-set_other sums (layer - 1) i sum 0 (λ f. omega arith) ∙ w.below i (omega arith);
-    behind = λ i a. get_or-set_other sums (layer - 1) i sum 0 (λ f. omega arith) ∙ w.behind i a;
-  }
-
   -- all layers are added
   pub sums_end : layer ≡ 0 → sums ≡ with_sums first p s old
   unfolding with_sums

@@ -7,15 +7,14 @@ use mathlib.Core.Logic.{⊎_elim}
 use mathlib.Core.List.{List, [], ◌∷◌}
 use native.Mathlib.Omega.{arith}
 use lib.Dec.{T, eqb, eqb→eq, leb, ltb, ltb→lt, lt→ltb}
-use lib.ListN.{length, get_or, set, length-set, get_or-eq_default}
-use lib.Seq.{get_or-set_same, get_or-set_other}
+use lib.ListN.{length, get_or, get_or-eq_default}
 use borrow.Author.Tests.{eq-eqb, ne_eqb, le-leb, lt-leb, lt-ltb, le-ltb}
 use Rattle.leb128.specs.laws.Cases.{lt_or_le, eq_or_ne}
 use Rattle.sheet.specs.Limits.{max_nodes}
 use Rattle.network.specs.Sums.{below}
 use Rattle.network.specs.laws.Tests.{and_left, and_right, is_true, is_false, fails, below_at, at_below}
 use Rattle.totals.specs.RunningSums.{layer_start, rises}
-use Rattle.totals.specs.inside.Chains.{InLayer, Near, StartAt, StartTable, Starts}
+use Rattle.totals.specs.inside.Chains.{InLayer, Near, StartAt}
 
 -- a number that is there, whatever stands for one that is not
 pub any_default : (l : List ℕ) (i d e : ℕ) → i < length l → get_or l i d ≡ get_or l i e
@@ -23,11 +22,9 @@ any_default [] i d e h = absurd (omega arith)
 any_default (x ∷ l) zero d e h = refl
 any_default (x ∷ l) (suc i) d e h = any_default l i d e (omega arith)
 
--- of the first nodes the first i rise
-pub record RisingTo (first : List ℕ) (i : ℕ) : Type 0 where
-  pub turns : i ≤ length first
-  pub zero : layer_start first 1 ≡ 0
-  pub passed : (j : ℕ) → j < i → layer_start first (j + 1) < layer_start first (j + 2)
+-- each first node is before the next one, and the last one is a node
+abbrev pub Rising : List ℕ → Type 0
+Rising first = (i : ℕ) → i < length first → layer_start first (i + 1) < layer_start first (i + 2)
 
 module _ (first : List ℕ) where
   -- the test at an index
@@ -38,40 +35,22 @@ module _ (first : List ℕ) where
   all_rise : T (rises first) → T (below (length first) rise)
   all_rise t = and_right (eqb (layer_start first 1) 0) (below (length first) rise) t
 
-  -- they do not begin at 0
-  pub not_zero : (layer_start first 1 ≡ 0 → ⊥) → false ≡ rises first
-  not_zero ne = rw (ne_eqb (layer_start first 1) 0 ne) refl
+  -- so each is before the next one
+  rising : T (rises first) → Rising first
+  rising t i h =
+      ltb→lt (layer_start first (i + 1)) (layer_start first (i + 2)) (below_at (length first) rise (all_rise t) i h)
 
-  -- none is passed yet
-  pub rising_begin : layer_start first 1 ≡ 0 → RisingTo first 0
-  rising_begin e = record { turns = omega arith; zero = e; passed = λ j h. absurd (omega arith) }
-
-  module _ {i : ℕ} (r : RisingTo first i) where
-    -- one more
-    pub rising_next : i < length first → layer_start first (i + 1) < layer_start first (i + 2) → RisingTo first (i + 1)
-    rising_next h k = record {
-      turns = omega arith;
-      zero = r.zero;
-      passed = λ j l. ⊎_elim (λ (e : j ≡ i). rw e k) (λ (ne : j ≡ i → ⊥). r.passed j (omega arith)) (eq_or_ne j i);
-    }
-
-    -- the next one does not
-    pub rising_fails : i < length first → layer_start first (i + 2) ≤ layer_start first (i + 1) → false ≡ rises first
-    rising_fails h k =
-        sym
-        (is_false (rises first)
-        (fails (rises first)
-        (λ t.
-        let here : T (rise i) = below_at (length first) rise (all_rise t) i h in
-        omega (arith, ltb→lt (layer_start first (i + 1)) (layer_start first (i + 2)) here))))
-
-    -- none is left
-    pub rising_end : length first ≤ i → true ≡ rises first
-    rising_end h =
-        rw (eq-eqb (layer_start first 1) 0 r.zero)
-        (sym
-        (is_true (below (length first) rise)
-        (at_below (length first) rise (λ j l. lt→ltb (layer_start first (j + 1)) (layer_start first (j + 2)) (r.passed j (omega arith))))))
+  -- what passes exactly if they rise
+  pub rising_tested : {r : Bool} → layer_start first 1 ≡ 0 → (r ≡ true → Rising first) → (Rising first → r ≡ true) → r ≡ rises first
+  rising_tested {r = true} e given back =
+      rw (eq-eqb (layer_start first 1) 0 e)
+      (sym
+      (is_true (below (length first) rise)
+      (at_below (length first) rise (λ i h. lt→ltb (layer_start first (i + 1)) (layer_start first (i + 2)) (given refl i h)))))
+  rising_tested {r = false} e given back = sym (is_false (rises first) (fails (rises first) (λ t. absurd_of (back (rising t)))))
+    where
+      absurd_of : false ≡ true → ⊥
+      absurd_of f = cc
 
 module _ (first : List ℕ) (t : T (rises first)) where
   -- the first layer starts at node 0
@@ -84,8 +63,7 @@ module _ (first : List ℕ) (t : T (rises first)) where
       let i : ℕ = layer - 1 in
       let this : i + 1 - 1 ≡ layer - 1 = omega arith in
       let next : i + 2 - 1 ≡ layer + 1 - 1 = omega arith in
-      let here : T (rise first i) = below_at (length first) (rise first) (all_rise first t) i (omega arith) in
-      rw (this, next) at (ltb→lt (layer_start first (i + 1)) (layer_start first (i + 2)) here)
+      rw (this, next) at (rising first t i (omega arith))
 
   -- so it starts no later than any layer behind it
   starts_order : {layer : ℕ} (d : ℕ) → 1 ≤ layer → layer + d ≤ length first + 1 → layer_start first layer ≤ layer_start first (layer + d)
@@ -185,57 +163,8 @@ module _ (first : List ℕ) (t : T (rises first)) where
           absurd (omega (arith, ap (λ (b : ℕ). layer_start first (b + 1)) last, behind)))
           (lt_or_le layer (length first))
 
-  -- the first node is in the first layer
-  pub near_begin : Near first 1 0
-  near_begin = record { some = omega arith; there = some_layer; after = omega (arith, starts_zero); before = omega arith }
-    where
-      some_layer : 1 ≤ length first
-      some_layer =
-          ⊎_elim
-          (λ (l : 0 < length first). l)
-          (λ (l : length first ≤ 0). absurd (omega (arith, starts_zero, get_or-eq_default first max_nodes {n = 0} l)))
-          (lt_or_le 0 (length first))
-
-module _ {first : List ℕ} {layer v : ℕ} where
-  -- the next layer is not reached
-  pub near_same : Near first layer v → v < layer_start first (layer + 1) → InLayer first layer v
-  near_same n h = record { some = n.some; there = n.there; after = n.after; before = h }
-
-  -- the node behind one is near its layer
-  in_near : InLayer first layer v → Near first layer (v + 1)
-  in_near i = record { some = i.some; there = i.there; after = omega (arith, i.after); before = omega (arith, i.before) }
-
 -- on the way through the nodes: those before v have the first node of their layer, and v is near the last layer found
 pub record StartsTo (first starts : List ℕ) (layer v : ℕ) : Type 0 where
   pub size : length starts ≤ max_nodes
-  pub turns : v ≤ length starts
   pub near : Near first layer v
   pub each : (u : ℕ) → u < v → StartAt first u (get_or starts u 0)
-
--- no node is passed yet
-pub starts_begin : (first : List ℕ) {starts : List ℕ} → T (rises first) → length starts ≤ max_nodes → StartsTo first starts 1 0
-starts_begin first t e =
-    record { size = e; turns = omega arith; near = near_begin first t; each = λ u h. absurd (omega arith) }
-
--- one node more
-pub starts_next : {first starts : List ℕ} {layer v next start : ℕ} → StartsTo first starts layer v → v < length starts
-    → InLayer first next v → start ≡ layer_start first next → StartsTo first (set starts v start) next (v + 1)
-starts_next {first} {starts} {v = v} {next = next} {start = start} s h i e = record {
-  size = omega (arith, length-set starts v start, s.size);
-  turns = omega (arith, length-set starts v start);
-  near = in_near i;
-  each = λ u l.
-      ⊎_elim
-      (λ (same : u ≡ v).
-      rw (same, get_or-set_same starts v start 0 h) (record { layer = next; inside = i; is = e }))
-      (λ (other : u ≡ v → ⊥). rw (get_or-set_other starts v u start 0 other) (s.each u (omega arith)))
-      (eq_or_ne u v);
-}
-
--- no node is left
-pub starts_end : {first starts : List ℕ} {layer v : ℕ} → StartsTo first starts layer v → length starts ≤ v → Starts first starts
-starts_end s h = record { size = s.size; each = λ u l. s.each u (omega arith) }
-
--- a layer's first node is not behind its nodes
-pub starts_table : {first starts : List ℕ} → Starts first starts → StartTable starts
-starts_table s = record { size = s.size; below = λ v h. omega (arith, (s.each v h).is, (s.each v h).inside.after) }

@@ -1,8 +1,9 @@
 -- Walking along a layer's chain adds the edges whose lower end is in that layer: between two links there is no other.
-use Prim.Native.Nat.{ℕ, suc, ◌+◌, ◌-◌, ◌/◌, ◌≤◌, ◌<◌, min}
-use mathlib.Core.Path.{◌≡◌, refl, sym, ap, subst}
+use Prim.Native.Nat.{ℕ, ◌+◌, ◌/◌, ◌≤◌, ◌<◌, min}
+use mathlib.Core.Path.{◌≡◌, refl, sym, ◌∙◌, ap, subst}
 use mathlib.Core.Bool.{cond}
 use mathlib.Core.List.{List}
+use native.Mathlib.Numerals.{add-one}
 use native.Mathlib.Omega.{arith}
 use lib.Dec.{eqb}
 use lib.ListN.{length, get_or}
@@ -46,35 +47,31 @@ module _ {p starts s chains : List ℕ} {v : ℕ} (c : Chained starts s (length 
   }
 
   module _ {sum link r : ℕ} (w : Walking p starts s v sum link r) where
-    -- the link leads to an edge
-    pub walking_there : 0 < link → link - 1 < length s / stride
-    walking_there h = omega (arith, w.last.inside, w.inside)
+    -- the link leads to edge i
+    module _ (i : ℕ) (is : link ≡ i + 1) where
+      -- which is there
+      pub walking_there : i < length s / stride
+      walking_there = omega (arith, w.last.inside, w.inside)
 
-    -- which is in the chain
-    here : 0 < link → start_of starts s (link - 1) ≡ v
-    here h = w.last.ends (link - 1) (omega arith)
+      -- and is in the chain
+      here : start_of starts s i ≡ v
+      here = w.last.ends i (omega arith)
 
-    -- the next link leads to an earlier edge
-    pub walking_less : {next : ℕ} → 0 < link → next ≡ get_or chains (max_nodes + (link - 1)) 0 → next < link
-    walking_less h e = omega (arith, (c.befores (link - 1) (walking_there h)).inside)
-
-    -- one edge more
-    pub walking_next : {next r' : ℕ} → 0 < link → r' ≡ min u32_most (r + counted_at p (edge_from (link - 1) s))
-        → next ≡ get_or chains (max_nodes + (link - 1)) 0 → Walking p starts s v sum next r'
-    unfolding sum_to
-    walking_next h e f =
-        let i : ℕ = link - 1 in
-        let is : link ≡ suc i = omega arith in
-        let f-i : ℕ → ℕ = term p starts s v in
-        let counts : f-i i ≡ counted_at p (edge_from i s) = rw (eq-eqb v (start_of starts s i) (sym (here h))) refl in
-        let parts : sum_to link f-i ≡ f-i i + sum_to i f-i = ap (λ (k : ℕ). sum_to k f-i) is in
-        record {
-          upto = i;
-          inside = omega (arith, walking_there h);
-          last = rw f (subst (λ (u : ℕ). Last starts s u i (get_or chains (max_nodes + i) 0)) (here h) (c.befores i (walking_there h)));
-          small = omega arith;
-          whole = omega (arith, last_sum p starts s v w.last, parts, counts, e, w.whole);
-        }
+      -- one edge more
+      pub walking_next : {next r' : ℕ} → r' ≡ min u32_most (r + counted_at p (edge_from i s))
+          → next ≡ get_or chains (max_nodes + i) 0 → Walking p starts s v sum next r'
+      unfolding sum_to
+      walking_next e f =
+          let f-i : ℕ → ℕ = term p starts s v in
+          let counts : f-i i ≡ counted_at p (edge_from i s) = rw (eq-eqb v (start_of starts s i) (sym here)) refl in
+          let parts : sum_to link f-i ≡ f-i i + sum_to i f-i = ap (λ (k : ℕ). sum_to k f-i) (is ∙ add-one i) in
+          record {
+            upto = i;
+            inside = omega (arith, walking_there);
+            last = rw f (subst (λ (u : ℕ). Last starts s u i (get_or chains (max_nodes + i) 0)) here (c.befores i walking_there));
+            small = omega arith;
+            whole = omega (arith, last_sum p starts s v w.last, parts, counts, e, w.whole);
+          }
 
     -- no edge is left
     pub walking_end : link ≡ 0 → r ≡ min u32_most (sum + sum_to (length s / stride) (term p starts s v))

@@ -1,6 +1,6 @@
 -- The layer that a node is in, and packed edges in chains, one for each layer, by their lower ends. A link is 0 where there is no edge,
 -- else the edge's index and 1.
-use Rattle.std.specs.Prelude.{ℕ, suc, ◌+◌, ◌/◌, ◌<◌, ◌≤◌, ◌≡◌, List, length, get_or, set}
+use Rattle.std.specs.Prelude.{ℕ, suc, ◌+◌, ◌/◌, ◌<◌, ◌≤◌, ◌≡◌, List, length, get_or, set, Option, Some, None}
 use Rattle.sheet.specs.Limits.{max_nodes, max_edges}
 use Rattle.network.specs.Packed.{stride}
 use Rattle.packed.specs.Ends.{edge_from, lower_at}
@@ -35,6 +35,11 @@ pub record StartTable (starts : List ℕ) : Type 0 where
 pub record Starts (first starts : List ℕ) : Type 0 where
   pub size : length starts ≤ max_nodes
   pub each : (v : ℕ) → v < length starts → StartAt first v (get_or starts v 0)
+
+-- the link that leads to an edge, or to none
+abbrev pub link_of : Option ℕ → ℕ
+link_of None = 0
+link_of (Some i) = i + 1
 
 -- a link for each node of a sheet, and one for each edge
 abbrev pub links : ℕ

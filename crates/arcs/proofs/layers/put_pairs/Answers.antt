@@ -1,34 +1,23 @@
 -- `arcs::layers::put_pairs` meets its contract: the loop's invariant is `PairsLeft`.
-use mathlib.Core.Path.{refl}
 use native.Mathlib.Omega.{arith}
-use Rattle.leb128.specs.laws.Storing.{left_begin}
-use Rattle.arcs.proofs.laws.Pairs.{pairs_step, pairs_end}
+use Rattle.arcs.proofs.laws.Pairs.{pairs_begin, pairs_step, pairs_end}
 use Rattle.arcs.proofs.layers.put_pairs.Goals as goal
 
-pub loop-todo-init : goal.loop-todo-init
-loop-todo-init c = record { inside = omega arith; room = refl; left = left_begin _ _ _ }
+pub loop-k-init : goal.loop-k-init
+loop-k-init c = pairs_begin c.args.numbers.now c.args.start c.args.count c.args.first c.args.n c.args.arcs.now
 
 pub put_pair-m-requires : goal.put_pair-m-requires
 put_pair-m-requires c = (
-  omega (arith, c.loop-todo.invariant.inside),
-  omega (arith, c.loop-todo.invariant.inside),
-  omega (arith, c.loop-todo.invariant.room, c.loop-todo.invariant.left.size),
+  omega arith,
+  omega arith,
+  omega (arith, c.loop-k.invariant.room, c.loop-k.invariant.left.size),
 )
 
-pub overflow_add-at : goal.overflow_add-at
-overflow_add-at c = omega (arith, c.loop-todo.invariant.inside)
-
-pub overflow_add-v : goal.overflow_add-v
-overflow_add-v c = omega (arith, c.loop-todo.invariant.inside)
-
-pub loop-todo-smaller : goal.loop-todo-smaller
-loop-todo-smaller c = omega arith
-
-pub loop-todo-preserved : goal.loop-todo-preserved
-loop-todo-preserved c = pairs_step c.loop-todo.invariant c.loop-todo-test.true c.put_pair-m.ensures
+pub loop-k-preserved : goal.loop-k-preserved
+loop-k-preserved c = pairs_step c.loop-k.invariant c.loop-k-test.true c.put_pair-m.ensures
 
 pub shape_of-arcs : goal.shape_of-arcs
-shape_of-arcs c = c.loop-todo.invariant.left.size
+shape_of-arcs c = c.loop-k.invariant.left.size
 
 pub returns : goal.returns
-returns c = pairs_end c.loop-todo.invariant (omega arith)
+returns c = pairs_end c.loop-k.invariant (omega arith)

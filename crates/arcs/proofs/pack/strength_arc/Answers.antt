@@ -5,8 +5,10 @@ use Rattle.arcs.proofs.pack.strength_arc.Goals as goal
 
 pub returns-then-amount-le-MAX_WEIGHT : goal.returns-then-amount-le-MAX_WEIGHT
 returns-then-amount-le-MAX_WEIGHT c =
-    strength_plain c.args.strength c.args.upper c.args.lower c.if-amount-le-MAX_WEIGHT.true
+    rw c.from-amount.ensures
+    (strength_plain c.args.strength c.args.upper c.args.lower (omega (arith, c.from-amount.ensures, c.if-amount-le-MAX_WEIGHT.true)))
 
 pub returns : goal.returns
 returns c =
-    strength_straight c.args.strength c.args.upper c.args.lower (omega (arith, c.if-amount-le-MAX_WEIGHT.false))
+    strength_straight c.args.strength c.args.upper c.args.lower
+    (omega (arith, c.from-amount.ensures, c.if-amount-le-MAX_WEIGHT.false))

@@ -24,5 +24,5 @@ number-edges-requires c = edges_there c.requires.good c.number-layers.ensures c.
 
 pub returns : goal.returns
 returns c =
-    planned c.requires.good c.number-layers.ensures c.first_nodes-behind.ensures c.requires.max_layers_in_bounds c.wide-nodes.ensures.is
+    planned c.requires.good c.number-layers.ensures c.first_nodes-behind.ensures c.requires.max_layers_in_bounds c.from-nodes.ensures
     c.number-edges.ensures.is

@@ -2,4 +2,4 @@
 use Rattle.arcs.proofs.traces.raise.Goals as goal
 
 pub returns : goal.returns
-returns c = rw (c.larger.ensures, c.slot-at.ensures)
+returns c = rw (c.max.ensures, c.slot-at.ensures)

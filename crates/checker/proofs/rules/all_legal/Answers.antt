@@ -1,26 +1,15 @@
--- `checker::rules::all_legal` meets its contract: the loop's invariant is `Passing`.
-use native.Mathlib.Omega.{arith}
-use Rattle.checker.proofs.laws.Loops.{passing_begin, passing_next, passing_fails, passing_end}
+-- `checker::rules::all_legal` meets its contract: the test of each arc is the test of their list.
+use mathlib.Core.Path.{◌≡◌, refl}
+use mathlib.Core.Bool.{true}
+use borrow.Author.Rules.{rules}
+use Rattle.network.specs.laws.TestedRange.{all_tested}
+use Rattle.network.specs.Network.{integers, legal}
+use Rattle.network.specs.Packed.{arc_at}
+use Rattle.checker.proofs.laws.Loops.{all_is}
 use Rattle.checker.proofs.rules.all_legal.Goals as goal
 
-pub loop-i-init : goal.loop-i-init
-loop-i-init c = passing_begin _ _ _
-
-pub legal_at-requires : goal.legal_at-requires
-legal_at-requires c = c.requires.arcs c.loop-i.i (omega arith)
-
-pub returns-then-not-legal_at : goal.returns-then-not-legal_at
-returns-then-not-legal_at c =
-    passing_fails c.loop-i.invariant (omega arith) c.legal_at.ensures c.if-not-legal_at.true
-
-pub overflow_add-i : goal.overflow_add-i
-overflow_add-i c = omega arith
-
-pub loop-i-smaller : goal.loop-i-smaller
-loop-i-smaller c = omega arith
-
-pub loop-i-preserved : goal.loop-i-preserved
-loop-i-preserved c = passing_next c.loop-i.invariant (omega arith) c.legal_at.ensures c.if-not-legal_at.false
-
 pub returns : goal.returns
-returns c = passing_end c.loop-i.invariant (omega arith)
+returns c =
+    all_is (legal (integers c.args.places.now)) (arc_at c.args.arcs.now) c.args.n c.all.result
+    (all_tested (λ i. legal (integers c.args.places.now) (arc_at c.args.arcs.now i) ≡ true) c.args.n c.all.result c.all.ensures.ran refl
+    (λ x q k. search rules) (λ x q k. search rules))

@@ -15,12 +15,6 @@ bring-requires c =
       within = λ u l. omega (arith, c.loop-i.invariant.small u l, c.loop-i.invariant.turns, c.requires.table.few);
     }
 
-pub overflow_add-i : goal.overflow_add-i
-overflow_add-i c = omega (arith, c.loop-i.invariant.turns)
-
-pub loop-i-smaller : goal.loop-i-smaller
-loop-i-smaller c = omega (arith, c.loop-i.invariant.turns)
-
 pub loop-i-preserved : goal.loop-i-preserved
 loop-i-preserved c = count_next c.loop-i.invariant (omega arith) c.bring.ensures
 

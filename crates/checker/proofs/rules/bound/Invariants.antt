@@ -1,10 +1,6 @@
 -- `checker::rules::bound` meets its contract: the loop's invariant is `Bounding`.
-use Prim.Native.Nat.{◌-◌}
 use Rattle.checker.proofs.laws.Bounds.{Bounding}
 use Rattle.checker.proofs.rules.bound.Given as goal
 
 abbrev pub invariant-loop-i : goal.invariant-loop-i
 invariant-loop-i l = Bounding l.arcs l.list l.n l.i l.result
-
-abbrev pub decreases-loop-i : goal.decreases-loop-i
-decreases-loop-i l = l.n - l.i

@@ -1,18 +1,14 @@
 -- `circulation::augment::walk` meets its contract: the loop's invariant is `Walking`; the place in the order falls.
-use Rattle.circulation.specs.inside.Search.{Pushable, Pushed}
+use Rattle.circulation.specs.inside.Search.{Pushed}
 use Rattle.network.specs.Net.{net, at}
 use Rattle.network.specs.Nodes.{parents}
-use Rattle.circulation.proofs.laws.Walks.{walk_start, walked, pushable, walk_next}
+use Rattle.circulation.proofs.laws.Walks.{walk_next}
 use Rattle.circulation.specs.laws.Columns.{column_length}
 use lib.ListN.{length}
-use mathlib.Core.Path.{subst, sym}
+use mathlib.Core.Path.{subst}
 use Prim.Native.Nat.{ℕ}
 use native.Mathlib.Omega.{arith}
 use Rattle.circulation.proofs.augment.walk.Goals as goal
-
-pub loop-v-init : goal.loop-v-init
-loop-v-init c =
-    walk_start c.requires.reached_at c.requires.amount
 
 pub get-requires : goal.get-requires
 get-requires c = (
@@ -20,28 +16,6 @@ get-requires c = (
   omega (arith, c.loop-v.invariant.v_in, c.requires.reached_at.state.wf.nodes),
   omega arith,
 )
-
-pub push-v-requires : goal.push-v-requires
-push-v-requires c =
-    subst
-    (λ (m : ℕ). Pushable (net c.args.arcs.now m) c.loop-v.flows c.get.result c.loop-v.v c.args.d)
-    (sym c.loop-v.invariant.x_size)
-    (subst
-    (λ (i : ℕ). Pushable (net c.args.arcs.now (length c.args.flows.now)) c.loop-v.flows i c.loop-v.v
-    c.args.d)
-    (sym c.get.ensures) (pushable c.loop-v.invariant c.loop-v-test.true))
-
-pub loop-v-smaller : goal.loop-v-smaller
-loop-v-smaller c =
-    (walk_next c.loop-v.invariant c.loop-v-test.true c.push-v.new.flows c.push-v.result
-    (subst
-    (λ (m : ℕ). Pushed (net c.args.arcs.now m) c.loop-v.flows (at (parents c.args.nodes.now) c.loop-v.v)
-    c.loop-v.v c.args.d c.push-v.new.flows c.push-v.result)
-    c.loop-v.invariant.x_size
-    (subst
-    (λ (i : ℕ). Pushed (net c.args.arcs.now (length c.loop-v.flows)) c.loop-v.flows i c.loop-v.v c.args.d
-    c.push-v.new.flows c.push-v.result)
-    c.get.ensures c.push-v.ensures))).1
 
 pub loop-v-preserved : goal.loop-v-preserved
 loop-v-preserved c =
@@ -54,11 +28,3 @@ loop-v-preserved c =
     (λ (i : ℕ). Pushed (net c.args.arcs.now (length c.loop-v.flows)) c.loop-v.flows i c.loop-v.v c.args.d
     c.push-v.new.flows c.push-v.result)
     c.get.ensures c.push-v.ensures))).0
-
-pub shape_of-flows : goal.shape_of-flows
-shape_of-flows c =
-    c.loop-v.invariant.x_size
-
-pub returns : goal.returns
-returns c =
-    walked c.loop-v.invariant c.loop-v-test.false

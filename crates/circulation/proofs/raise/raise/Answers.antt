@@ -10,10 +10,6 @@ use Prim.Native.Nat.{ℕ, ◌+◌}
 use native.Mathlib.Omega.{arith}
 use Rattle.circulation.proofs.raise.raise.Goals as goal
 
-pub get-requires : goal.get-requires
-get-requires c =
-    (c.requires.v_bound.0, c.requires.v_bound.1, omega arith)
-
 pub returns-then-get-eq0 : goal.returns-then-get-eq0
 returns-then-get-eq0 c =
     stored_same 0 c.args.v
@@ -23,24 +19,6 @@ returns-then-get-eq0 c =
     (lift_out (at (orders c.args.nodes.now) c.args.v)
     (at (potentials c.args.nodes.now) c.args.v) c.args.d
     (omega (arith, c.get.ensures, c.if-get-eq0.true)))
-
-pub get-p-requires : goal.get-p-requires
-get-p-requires c =
-    (c.requires.v_bound.0, c.requires.v_bound.1, omega arith)
-
-pub overflow_add-p : goal.overflow_add-p
-overflow_add-p c =
-    omega
-    (arith, c.get-p.ensures, c.requires.d_bound (omega (arith, c.get.ensures, c.if-get-eq0.false)))
-
-pub put-requires : goal.put-requires
-put-requires c = (
-  c.requires.v_bound.0,
-  c.requires.v_bound.1,
-  omega arith,
-  omega
-      (arith, c.get-p.ensures, c.requires.d_bound (omega (arith, c.get.ensures, c.if-get-eq0.false))),
-)
 
 pub returns : goal.returns
 returns c =

@@ -1,38 +1,26 @@
 -- `circulation::search::search` meets its contract: the loop's invariant is `Searching`; the count of nodes left falls.
 use Rattle.circulation.specs.inside.Search.{Reached}
-use Rattle.network.specs.Nodes.{potentials, orders, parents, residuals, node_stride}
+use Rattle.network.specs.Nodes.{potentials, orders, parents, residuals}
 use Rattle.network.specs.Net.{net}
-use Rattle.circulation.proofs.laws.Searches.{search_start, search_next, search_found, search_crosses}
+use Rattle.circulation.proofs.laws.Searches.{search_start, search_found, search_crosses}
 use Rattle.circulation.proofs.laws.Growing.{crossing_residual}
 use Rattle.circulation.proofs.laws.Reaching.{new_there}
 use Rattle.circulation.specs.laws.Columns.{column_length, column_at}
 use lib.ListN.{length, get_or}
-use Prim.Native.Nat.{ℕ, ◌+◌, ◌*◌}
+use Prim.Native.Nat.{ℕ}
 use mathlib.Core.List.{List}
 use mathlib.Core.Path.{refl, subst, sym, ap, ◌∙◌}
 use native.Mathlib.Omega.{arith}
 use Rattle.circulation.proofs.search.search.Goals as goal
 
-pub get-residual-requires : goal.get-residual-requires
-get-residual-requires c = (
-  c.requires.s_bound.0,
-  omega (arith, c.requires.s_bound.0, c.requires.state_at.wf.nodes, column_length 0 c.args.nodes.now),
-  omega arith,
-)
-
-pub overflow_sub-residual : goal.overflow_sub-residual
-overflow_sub-residual c =
-    omega (arith, c.get-residual.ensures, c.requires.s_bound.1)
-
 pub begin-requires : goal.begin-requires
 begin-requires c = (
   omega (arith, c.requires.state_at.wf.nodes, column_length 0 c.args.nodes.now),
   c.requires.s_bound.0,
-  omega (
+  grind (
     arith,
     c.get-residual.ensures,
     column_at 1 c.args.nodes.now c.args.s c.requires.s_bound.0,
-    c.slice_known-1.given (node_stride * c.args.s + 1),
   ),
 )
 
@@ -56,21 +44,10 @@ loop-s-init c = (
   refl,
 )
 
-pub extend-v-requires : goal.extend-v-requires
-extend-v-requires c =
-    record {
-      grown_at = c.loop-s.invariant.0.grown;
-      crossing_at = search_crosses c.loop-s.invariant.0;
-    }
-
 pub get-requires : goal.get-requires
 get-requires c =
     new_there c.loop-s.invariant.0.grown
     c.extend-v.ensures (omega arith)
-
-pub shape_of-nodes-then-get-lt-DEFICIT_ZERO : goal.shape_of-nodes-then-get-lt-DEFICIT_ZERO
-shape_of-nodes-then-get-lt-DEFICIT_ZERO c =
-    c.extend-v.ensures.length_same ∙ (c.loop-s.invariant.1 ∙ c.begin.ensures.length_same)
 
 pub returns-then-get-lt-DEFICIT_ZERO : goal.returns-then-get-lt-DEFICIT_ZERO
 returns-then-get-lt-DEFICIT_ZERO c =
@@ -96,11 +73,6 @@ get-start-requires c =
     new_there c.loop-s.invariant.0.grown
     c.extend-v.ensures (omega arith)
 
-pub overflow_add-count : goal.overflow_add-count
-overflow_add-count c =
-    omega
-    (arith, crossing_residual c.loop-s.invariant.0.grown (search_crosses c.loop-s.invariant.0), c.loop-s.invariant.0.grown.ready.wf.nodes)
-
 pub loop-s-smaller : goal.loop-s-smaller
 loop-s-smaller c =
     omega (
@@ -110,15 +82,5 @@ loop-s-smaller c =
       c.loop-s.invariant.1,
     )
 
-pub loop-s-preserved : goal.loop-s-preserved
-loop-s-preserved c = (
-  search_next c.extend-v.result c.loop-s.invariant.0 c.extend-v.ensures.extends c.extend-v.ensures.root_residual
-      (omega (
-        arith,
-        c.get.ensures,
-        c.if-get-lt-DEFICIT_ZERO.false,
-        ap (λ (l : List ℕ). get_or l c.extend-v.result 0) (c.extend-v.ensures.deficits_same ∙ c.loop-s.invariant.2),
-      )),
-  c.extend-v.ensures.length_same ∙ c.loop-s.invariant.1,
-  (c.extend-v.ensures.deficits_same ∙ c.loop-s.invariant.2),
-)
+pub extend-v-requires-clause-crossing_at : goal.extend-v-requires-clause-crossing_at
+extend-v-requires-clause-crossing_at c = search_crosses c.loop-s.invariant.0

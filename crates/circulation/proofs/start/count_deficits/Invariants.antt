@@ -4,13 +4,10 @@ use Rattle.circulation.specs.inside.Stores.{Apart}
 use Rattle.network.specs.Net.{net}
 use Rattle.circulation.proofs.laws.Counts.{Counting}
 use lib.ListN.{length}
-use Prim.Native.Nat.{◌-◌, ◌/◌}
+use Prim.Native.Nat.{◌/◌}
 use Rattle.circulation.proofs.start.count_deficits.Given as goal
 
 abbrev pub invariant-loop-i : goal.invariant-loop-i
 invariant-loop-i l =
-    Counting (net l.arcs (length l.flows)) (length l.initial.nodes / node_stride) l.flows (column 1 l.nodes) l.i × Apart 1 l.initial.nodes l.nodes
-
-abbrev pub decreases-loop-i : goal.decreases-loop-i
-decreases-loop-i l =
-    length l.flows - l.i
+    Counting (net l.arcs (length l.flows)) (length l.initial.nodes / node_stride) l.flows (column 1 l.nodes) l.i
+    × Apart 1 l.initial.nodes l.nodes

@@ -1,36 +1,19 @@
 -- `circulation::step::nearest` meets its contract: the loop's invariant is `Seeking`; a step of 0 is the least.
-use Rattle.network.specs.Net.{at, net}
-use Rattle.network.specs.Nodes.{potentials, orders}
-use lib.ListN.{length}
-use Rattle.circulation.proofs.laws.LeastStep.{seek_start, seek_take, seek_keep, seek_found, near_zero}
+use Rattle.circulation.proofs.laws.LeastStep.{seek_take, seek_keep, seek_none}
+use Rattle.std.specs.Prelude.{IfSome, IsSomeAnd}
+use Prim.Native.Nat.{◌<◌, ◌≤◌}
+use borrow.Author.Rules.{rules}
 use Rattle.circulation.proofs.step.nearest.Goals as goal
-use Rattle.circulation.proofs.step.nearest.Goals.{then-r-best, else-r-best}
-
-pub loop-i-init : goal.loop-i-init
-loop-i-init c =
-    seek_start
-
-pub step_at-r-requires : goal.step_at-r-requires
-step_at-r-requires c =
-    record {
-      ready = c.requires.ready;
-      i_in_bounds = c.loop-i-test.true;
-    }
-
-pub returns-then-r-eq0 : goal.returns-then-r-eq0
-returns-then-r-eq0 c =
-    near_zero (net c.args.arcs.now (length c.args.flows.now))
-    (at (potentials c.args.nodes.now)) (at c.args.flows.now) (at (orders c.args.nodes.now))
-    c.loop-i.i c.loop-i-test.true
-    (rw c.if-r-eq0.true at c.step_at-r.ensures)
+use Rattle.circulation.proofs.step.nearest.Goals.{in-Some+else-d-eq0+then-is_none_or, in-Some+else-d-eq0+else-is_none_or, in_default}
 
 pub loop-i-preserved : goal.loop-i-preserved
 loop-i-preserved c =
-    elim c.if-r-best.branch [
-      | then-r-best w ↦ rw (w.best-is, w.arc-is) (seek_take c.loop-i.invariant c.loop-i-test.true c.step_at-r.ensures w.if-r-best.true)
-      | else-r-best w ↦ rw (w.best-is, w.arc-is) (seek_keep c.loop-i.invariant c.loop-i-test.true c.step_at-r.ensures w.if-r-best.false)
+    elim c.match-step_at.branch [
+      | in-Some+else-d-eq0+then-is_none_or w ↦
+          let less : IfSome c.loop-i.best (λ b. w.in-Some.d < b.1) = search rules in
+          rw w.best-is (seek_take c.loop-i.invariant c.loop-i-test.true (rw w.in-Some.is at c.step_at.ensures) less)
+      | in-Some+else-d-eq0+else-is_none_or w ↦
+          let more : IsSomeAnd c.loop-i.best (λ b. b.1 ≤ w.in-Some.d) = search rules in
+          rw w.best-is (seek_keep c.loop-i.invariant c.loop-i-test.true (rw w.in-Some.is at c.step_at.ensures) more)
+      | in_default w ↦ rw w.best-is (seek_none c.loop-i.invariant c.loop-i-test.true (rw w.in_default.is at c.step_at.ensures))
     ]
-
-pub returns : goal.returns
-returns c =
-    seek_found c.loop-i.invariant c.loop-i-test.false c.requires.crossing_at

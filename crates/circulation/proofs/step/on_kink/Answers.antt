@@ -1,26 +1,13 @@
--- `circulation::step::on_kink` meets its contract: an arc is answered only where its step is 0.
-use native.Mathlib.Omega.{arith}
+-- `circulation::step::on_kink` meets its contract: an arc is answered only if its step is 0.
+use Rattle.circulation.specs.inside.Search.{StepAt}
+use Rattle.circulation.proofs.laws.Found.{found_some}
+use Rattle.network.specs.Net.{at, net}
+use Rattle.network.specs.Nodes.{potentials, orders}
+use Rattle.std.specs.Prelude.{Some}
+use lib.ListN.{length}
+use borrow.Author.Rules.{rules}
 use Rattle.circulation.proofs.step.on_kink.Goals as goal
-
-pub loop-i-init : goal.loop-i-init
-loop-i-init c =
-    tt
-
-pub step_at-requires : goal.step_at-requires
-step_at-requires c =
-    record {
-      ready = c.requires;
-      i_in_bounds = c.loop-i-test.true;
-    }
-
-pub returns-then-step_at-eq0 : goal.returns-then-step_at-eq0
-returns-then-step_at-eq0 c =
-    λ l. rw c.if-step_at-eq0.true at c.step_at.ensures
-
-pub loop-i-preserved : goal.loop-i-preserved
-loop-i-preserved c =
-    tt
 
 pub returns : goal.returns
 returns c =
-    λ l. absurd (omega (arith, c.loop-i-test.false))
+    found_some (λ i. StepAt (net c.args.arcs.now (length c.args.flows.now)) (at (potentials c.args.nodes.now)) (at c.args.flows.now) (at (orders c.args.nodes.now)) i (Some 0)) _ _ _ c.find.result c.find.ensures.ran (λ x q k. search rules) (λ x q k. search rules)

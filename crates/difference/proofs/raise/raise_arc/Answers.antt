@@ -1,41 +1,26 @@
--- `difference::raise::raise_arc` meets its contract. The two constraints put together, or the first alone where it is stuck.
-use Rattle.network.specs.Packed.{high_none, low_none}
-use Rattle.difference.proofs.laws.Steps.{stuck_any}
-use Rattle.difference.proofs.laws.Passes.{tail_relaxing, tail_raised, head_relaxing, head_raised, arc_raised}
-use mathlib.Core.Path.{ap}
-use Prim.Native.Nat.{ℕ}
-use lib.Dec.{eqb}
+-- `difference::raise::raise_arc` meets its contract: the two constraints put together, or the first that is stuck.
+use Rattle.difference.proofs.laws.Steps.{risen_same, stuck_after}
+use Rattle.difference.proofs.laws.Passes.{tail_raised, head_raised, arc_raised}
 use Rattle.difference.proofs.raise.raise_arc.Goals as goal
 
-pub relax-first-requires : goal.relax-first-requires
-relax-first-requires c =
-    tail_relaxing c.requires.ready c.requires.i_lt_count c.part_of-t.ensures.0
-    c.part_of-h.ensures.0 c.part_of-k.ensures.0
+pub returns-in_err-first : goal.returns-in_err-first
+returns-in_err-first c =
+    let first = tail_raised c.requires.ready c.requires.i_lt_count c.part_of-t.ensures.0 c.part_of-h.ensures.0 c.part_of-k.ensures.0
+    c.part_of.ensures.0 c.relax.new.values c.relax.result c.relax.ensures in
+    stuck_after (risen_same c.requires.ready) first c.in_err-first.was c.from_residual.result c.from_residual.ensures.0
 
-pub returns-in-Stuck : goal.returns-in-Stuck
-returns-in-Stuck c =
-    let first =
-    tail_raised c.requires.ready c.requires.i_lt_count c.part_of-t.ensures.0
-    c.part_of-h.ensures.0 c.part_of-k.ensures.0
-    (ap (λ (n : ℕ). eqb n high_none) c.part_of.ensures.0) c.relax-first.new.values c.relax-first.result c.relax-first.ensures in
-    stuck_any first c.in-Stuck.is
-
-pub relax-requires : goal.relax-requires
-relax-requires c =
-    let first =
-    tail_raised c.requires.ready c.requires.i_lt_count c.part_of-t.ensures.0
-    c.part_of-h.ensures.0 c.part_of-k.ensures.0
-    (ap (λ (n : ℕ). eqb n high_none) c.part_of.ensures.0) c.relax-first.new.values c.relax-first.result c.relax-first.ensures in
-    head_relaxing first.risen.ready c.requires.i_lt_count c.part_of-t.ensures.0
-    c.part_of-h.ensures.0 c.part_of-k.ensures.0
+pub returns-in_err-second : goal.returns-in_err-second
+returns-in_err-second c =
+    let first = tail_raised c.requires.ready c.requires.i_lt_count c.part_of-t.ensures.0 c.part_of-h.ensures.0 c.part_of-k.ensures.0
+    c.part_of.ensures.0 c.relax.new.values c.relax.result c.relax.ensures in
+    let second = head_raised first.risen.ready c.requires.i_lt_count c.part_of-t.ensures.0 c.part_of-h.ensures.0 c.part_of-k.ensures.0
+    c.part_of-2.ensures.0 c.relax-2.new.values c.relax-2.result c.relax-2.ensures in
+    stuck_after first.risen second c.in_err-second.was c.from_residual-in_err-second.result c.from_residual-in_err-second.ensures.0
 
 pub returns : goal.returns
 returns c =
-    let first =
-    tail_raised c.requires.ready c.requires.i_lt_count c.part_of-t.ensures.0
-    c.part_of-h.ensures.0 c.part_of-k.ensures.0
-    (ap (λ (n : ℕ). eqb n high_none) c.part_of.ensures.0) c.relax-first.new.values c.relax-first.result c.relax-first.ensures in
-    arc_raised c.args.i c.relax-first.result c.relax.result c.both.result c.in_default.not-Stuck first
-    (head_raised first.risen.ready c.requires.i_lt_count c.part_of-t.ensures.0
-    c.part_of-h.ensures.0 c.part_of-k.ensures.0
-    (ap (λ (n : ℕ). eqb n low_none) c.part_of-2.ensures.0) c.relax.new.values c.relax.result c.relax.ensures) c.both.ensures
+    let first = tail_raised c.requires.ready c.requires.i_lt_count c.part_of-t.ensures.0 c.part_of-h.ensures.0 c.part_of-k.ensures.0
+    c.part_of.ensures.0 c.relax.new.values c.relax.result c.relax.ensures in
+    let second = head_raised first.risen.ready c.requires.i_lt_count c.part_of-t.ensures.0 c.part_of-h.ensures.0 c.part_of-k.ensures.0
+    c.part_of-2.ensures.0 c.relax-2.new.values c.relax-2.result c.relax-2.ensures in
+    arc_raised c.args.i c.in_ok-first.first c.in_ok-second.second (rw c.in_ok-first.was at first) (rw c.in_ok-second.was at second)

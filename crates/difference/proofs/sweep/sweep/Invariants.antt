@@ -3,11 +3,7 @@
 use Rattle.network.specs.Net.{net}
 use Rattle.difference.proofs.laws.Runs.{Running}
 use lib.ListN.{length}
-use Prim.Native.Nat.{◌-◌}
 use Rattle.difference.proofs.sweep.sweep.Given as goal
 
 abbrev pub invariant-loop-k : goal.invariant-loop-k
 invariant-loop-k l = Running (net l.arcs l.count) (length l.initial.values) l.values l.k
-
-abbrev pub decreases-loop-k : goal.decreases-loop-k
-decreases-loop-k l = length l.initial.values - l.k

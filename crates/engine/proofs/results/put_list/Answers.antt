@@ -21,12 +21,6 @@ loop-i-init c = left_begin _ _ _
 pub signed-requires : goal.signed-requires
 signed-requires c = c.requires.flows.small c.loop-i.i (omega arith)
 
-pub overflow_add-i : goal.overflow_add-i
-overflow_add-i c = omega arith
-
-pub loop-i-smaller : goal.loop-i-smaller
-loop-i-smaller c = omega arith
-
 pub loop-i-preserved : goal.loop-i-preserved
 loop-i-preserved c =
     let flows : List ℕ = c.args.flows.now in

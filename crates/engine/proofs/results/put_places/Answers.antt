@@ -10,12 +10,6 @@ use Rattle.engine.proofs.results.put_places.Goals as goal
 pub loop-v-init : goal.loop-v-init
 loop-v-init c = left_begin _ _ _
 
-pub overflow_add-v : goal.overflow_add-v
-overflow_add-v c = omega arith
-
-pub loop-v-smaller : goal.loop-v-smaller
-loop-v-smaller c = omega arith
-
 pub loop-v-preserved : goal.loop-v-preserved
 loop-v-preserved c =
     let f : ℕ → ℕ = place_at c.args.nodes.now in

@@ -2,10 +2,6 @@
 use Rattle.leb128.proofs.laws.Reading.{Reading}
 use Rattle.leb128.proofs.reader.read_number.Given as goal
 
-abbrev pub invariant-loop-left : goal.invariant-loop-left
-invariant-loop-left l =
-    Reading l.bytes l.at l.value l.weight l.next l.left
-
-abbrev pub decreases-loop-left : goal.decreases-loop-left
-decreases-loop-left l =
-    l.left
+abbrev pub invariant-loop-i : goal.invariant-loop-i
+invariant-loop-i l =
+    Reading l.bytes l.at l.value l.weight l.i

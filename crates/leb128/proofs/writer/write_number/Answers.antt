@@ -23,15 +23,6 @@ returns-then-bytes-size c =
       slice = both.1;
     }
 
-pub returns-then-bytes-size-2 : goal.returns-then-bytes-size-2
-returns-then-bytes-size-2 c =
-    let both = no_room c.args.bytes.now c.args.at c.args.n (omega arith)
-    (omega (arith, c.number_size-size.ensures ∙ number_size_is c.args.n)) in
-    record {
-      answer = both.0;
-      slice = both.1;
-    }
-
 pub store-requires : goal.store-requires
 store-requires c =
     record {

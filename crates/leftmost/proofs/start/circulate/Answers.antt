@@ -1,13 +1,14 @@
 -- `leftmost::start::circulate` meets its contract: the least solution of the hard constraints is a start for the solver of flows.
+use Rattle.std.proofs.Common.{◌≡◌, length, replicate, ◌∙◌, arith, rules}
+use Rattle.network.specs.Nodes.{size}
+use Rattle.leftmost.proofs.laws.Potentials.{potentials_part}
 use Rattle.leftmost.proofs.laws.Start.{solved_from}
-use Prim.Native.Nat.{ℕ}
-use mathlib.Core.Path.{◌∙◌, ap}
-use lib.ListN.{replicate}
 use Rattle.leftmost.proofs.start.circulate.Goals as goal
 
 pub returns : goal.returns
 returns c =
-    solved_from c.args.flows.now c.args.nodes.now c.args.room.now c.solve-answer.new.flows
-    c.solve-answer.new.nodes c.clear.new.numbers c.requires.taken
-    (c.clear.ensures ∙ ap (λ (n : ℕ). replicate n 0) c.least-start.auto.values) c.least-start.new.values c.set_potentials.new.nodes
-    c.least-start.result c.solve-answer.result c.requires.some_feasible c.least-start.ensures c.set_potentials.ensures c.solve-answer.ensures
+    let zeros : c.fill.new.self ≡ replicate (length c.args.room.now) 0 = search rules in
+    let put = c.set_potentials.ensures
+    ∙ potentials_part (size c.args.nodes.now) c.least.new.values c.args.nodes.now (omega (arith, c.requires.taken.room_in, c.least.auto.values)) in
+    solved_from c.args.flows.now c.args.nodes.now c.args.room.now c.solve.new.flows c.solve.new.nodes c.fill.new.self c.requires.taken zeros
+    c.least.new.values c.set_potentials.new.nodes c.least.result c.solve.result c.requires.some_feasible c.least.ensures put c.solve.ensures

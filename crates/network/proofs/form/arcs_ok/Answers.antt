@@ -1,27 +1,14 @@
--- `network::form::arcs_ok` meets its contract. The loop has seen only arcs that are in order.
-use Rattle.network.specs.laws.TestedAnswers.{tested_yes, tested_no}
-use borrow.Author.Count.{below_none, below_more}
-use native.Mathlib.Omega.{arith}
+-- `network::form::arcs_ok` meets its contract: `all` over the arcs is a test of each.
+use Rattle.network.specs.laws.TestedAnswers.{tested_map}
+use Rattle.network.specs.laws.TestedRange.{all_tested}
+use Rattle.network.specs.Net.{net}
+use Rattle.network.specs.WellFormed.{ArcIn}
+use borrow.Author.Rules.{rules}
+use mathlib.Core.Path.{refl}
 use Rattle.network.proofs.form.arcs_ok.Goals as goal
-
-pub loop-i-init : goal.loop-i-init
-loop-i-init c =
-    (omega arith, below_none _)
-
-pub returns-then-not-arc_ok : goal.returns-then-not-arc_ok
-returns-then-not-arc_ok c =
-    λ all. tested_no c.arc_ok.result c.arc_ok.ensures
-    c.if-not-arc_ok.true
-    (all.each c.loop-i.i c.loop-i-test.true)
-
-pub loop-i-preserved : goal.loop-i-preserved
-loop-i-preserved c = (
-  omega arith,
-  below_more _ _ c.loop-i.invariant.1
-      (tested_yes c.arc_ok.result c.arc_ok.ensures
-      c.if-not-arc_ok.false),
-)
 
 pub returns : goal.returns
 returns c =
-    record { each = λ i l. c.loop-i.invariant.1 i (omega (arith, c.loop-i-test.false)) }
+    tested_map (λ each. record { each = each }) (λ w. w.each) c.all.result
+    (all_tested (λ i. ArcIn (net c.args.arcs.now c.args.count) c.args.nodes i) c.args.count c.all.result c.all.ensures.ran refl
+    (λ x q k. search rules) (λ x q k. search rules))

@@ -6,26 +6,17 @@ use Rattle.report.proofs.lines.put_nodes.Goals as goal
 pub loop-v-init : goal.loop-v-init
 loop-v-init c = nodes_begin _ _ _ _ c.requires.laid_out
 
-pub shape_of-text-in_default : goal.shape_of-text-in_default
-shape_of-text-in_default c = c.loop-v.invariant.left.size
-
 pub returns-in_default : goal.returns-in_default
 returns-in_default c =
-    nodes_end c.loop-v.invariant
-    (all_before c.args.numbers.now c.loop-v.v c.locate-location.ensures c.in_default.is)
+    nodes_end c.loop-v.invariant (all_before c.args.numbers.now c.loop-v.v c.locate.ensures c.in_default.is)
 
 pub put_node-at-requires : goal.put_node-at-requires
 put_node-at-requires c =
-    node_room c.loop-v.invariant (at_node c.args.numbers.now c.loop-v.v c.locate-location.ensures c.in-Node.is)
-    c.requires.room
+    node_room c.loop-v.invariant (at_node c.args.numbers.now c.loop-v.v c.locate.ensures c.in-Some.is) c.requires.room
 
 pub loop-v-preserved : goal.loop-v-preserved
 loop-v-preserved c =
-    nodes_next c.loop-v.invariant (at_node c.args.numbers.now c.loop-v.v c.locate-location.ensures c.in-Node.is)
-    c.put_node-at.ensures
-
-pub shape_of-text : goal.shape_of-text
-shape_of-text c = c.loop-v.invariant.left.size
+    nodes_next c.loop-v.invariant (at_node c.args.numbers.now c.loop-v.v c.locate.ensures c.in-Some.is) c.put_node-at.ensures
 
 pub returns : goal.returns
 returns c = nodes_end c.loop-v.invariant (omega (arith, c.requires.numbers_in_bounds))

@@ -17,15 +17,16 @@ unfolding refusal_line
 put_field-behind_number-requires c =
     let offset-field = field c.args.refusal.offset newline in
     let number-field = field c.args.refusal.number space in
-    room_next number-field c.put-behind_refused.ensures
-    (room_first (refused_word ++ number-field) at_word (room_first (refused_word ++ number-field ++ at_word) offset-field c.requires))
+    rw c.from.ensures
+    (room_next number-field c.put-behind_refused.ensures
+    (room_first (refused_word ++ number-field) at_word (room_first (refused_word ++ number-field ++ at_word) offset-field c.requires)))
 
 pub put-behind_at-requires : goal.put-behind_at-requires
 unfolding refusal_line
 put-behind_at-requires c =
     let offset-field = field c.args.refusal.offset newline in
     let number-field = field c.args.refusal.number space in
-    room_next at_word (puts_then c.put-behind_refused.ensures c.put_field-behind_number.ensures)
+    room_next at_word (puts_then c.put-behind_refused.ensures (rw c.from.ensures at c.put_field-behind_number.ensures))
     (room_first (refused_word ++ number-field ++ at_word) offset-field c.requires)
 
 pub put_field-requires : goal.put_field-requires
@@ -33,9 +34,12 @@ unfolding refusal_line
 put_field-requires c =
     let offset-field = field c.args.refusal.offset newline in
     room_next offset-field
-    (puts_then (puts_then c.put-behind_refused.ensures c.put_field-behind_number.ensures) c.put-behind_at.ensures) c.requires
+    (puts_then (puts_then c.put-behind_refused.ensures (rw c.from.ensures at c.put_field-behind_number.ensures))
+    c.put-behind_at.ensures) c.requires
 
 pub returns : goal.returns
 unfolding refusal_line
 returns c =
-    puts_then (puts_then (puts_then c.put-behind_refused.ensures c.put_field-behind_number.ensures) c.put-behind_at.ensures) c.put_field.ensures
+    puts_then
+    (puts_then (puts_then c.put-behind_refused.ensures (rw c.from.ensures at c.put_field-behind_number.ensures))
+    c.put-behind_at.ensures) c.put_field.ensures

@@ -9,8 +9,8 @@ put-at-requires c = room_first total_word (field c.args.total newline) c.require
 
 pub put_field-requires : goal.put_field-requires
 unfolding total_line
-put_field-requires c = room_next (field c.args.total newline) c.put-at.ensures c.requires
+put_field-requires c = rw c.from.ensures (room_next (field c.args.total newline) c.put-at.ensures c.requires)
 
 pub returns : goal.returns
 unfolding total_line
-returns c = puts_then c.put-at.ensures c.put_field.ensures
+returns c = puts_then c.put-at.ensures (rw c.from.ensures at c.put_field.ensures)

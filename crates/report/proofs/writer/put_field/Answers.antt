@@ -1,5 +1,4 @@
 -- `report::writer::put_field` meets its contract: the digits, and the character behind them.
-use native.Mathlib.Omega.{arith}
 use Rattle.report.proofs.laws.Fields.{digits_room, stop_room, field_stored}
 use Rattle.report.proofs.writer.put_field.Goals as goal
 
@@ -12,13 +11,6 @@ pub bounds-text-next : goal.bounds-text-next
 bounds-text-next c =
     stop_room c.args.n c.decimal-count.result _ c.decimal-count.ensures.len c.decimal-count.ensures.digits
     c.args.stop c.put-next.ensures c.requires
-
-pub overflow_add-result : goal.overflow_add-result
-overflow_add-result c =
-    let room =
-    stop_room c.args.n c.decimal-count.result _ c.decimal-count.ensures.len c.decimal-count.ensures.digits
-    c.args.stop c.put-next.ensures c.requires in
-    omega arith
 
 pub returns : goal.returns
 returns c =

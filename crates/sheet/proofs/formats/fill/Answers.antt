@@ -1,24 +1,11 @@
--- `sheet::formats::fill` meets its contract: the format decides the pass.
+-- `sheet::formats::fill` meets its contract: the state of each format leads to its grammar.
+use Rattle.sheet.specs.Limits.{max_numbers}
+use Rattle.sheet.proofs.laws.AwaitedGrammar.{file_same}
+use Rattle.sheet.specs.laws.SheetNumbers.{each_sheet}
 use Rattle.sheet.proofs.formats.fill.Goals as goal
 
-pub fill-requires : goal.fill-requires
-fill-requires c =
-    record {
-      format_bytes = rw c.in-Sheet.is at c.requires.format_bytes;
-      count_in_bounds = c.requires.count_in_bounds;
-    }
+pub fill-requires-clause-leads : goal.fill-requires-clause-leads
+fill-requires-clause-leads c = (max_numbers, each_sheet)
 
-pub fill-requires-in-Coordinates : goal.fill-requires-in-Coordinates
-fill-requires-in-Coordinates c =
-    record {
-      format_bytes = rw c.in-Coordinates.is at c.requires.format_bytes;
-      count_in_bounds = c.requires.count_in_bounds;
-    }
-
-pub returns-in-Sheet : goal.returns-in-Sheet
-returns-in-Sheet c =
-    rw c.in-Sheet.is c.fill.ensures
-
-pub returns-in-Coordinates : goal.returns-in-Coordinates
-returns-in-Coordinates c =
-    rw c.in-Coordinates.is c.fill-in-Coordinates.ensures
+pub fill-requires-in-Coordinates-clause-leads : goal.fill-requires-in-Coordinates-clause-leads
+fill-requires-in-Coordinates-clause-leads c = (tt, file_same)

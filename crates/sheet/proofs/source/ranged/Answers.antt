@@ -1,51 +1,33 @@
 -- `sheet::source::ranged` meets its contract: what is found is tested by `within`, and counted.
-use Prim.Native.Nat.{◌^◌}
+use Rattle.std.proofs.lemmas.Result.{err_from_is_err_and}
 use Rattle.leb128.specs.laws.EachNumber.{within_inside}
-use Rattle.sheet.proofs.laws.Rules.{within_below, within_above}
+use Rattle.sheet.proofs.laws.Rules.{within_outside}
 use Rattle.sheet.proofs.laws.FoundNumbers.{found_refused, found_outside, found_inside, found_fits}
+use mathlib.Core.Path.{ap}
+use Rattle.std.specs.Prelude.{Err}
 use native.Mathlib.Omega.{arith}
 use Rattle.sheet.proofs.source.ranged.Goals as goal
 
-pub number-found-requires : goal.number-found-requires
-number-found-requires c =
-    c.requires.sound.small
+pub returns-in_err-n : goal.returns-in_err-n
+returns-in_err-n c =
+    let p = err_from_is_err_and c.from_residual.result c.from_residual.ensures.1 in
+    rw (p.1, p.2) (found_refused c.args.input c.args.c c.args.range c.requires.counted c.number.ensures.item c.in_err-n.was)
 
 pub returns-then-n-range : goal.returns-then-n-range
 returns-then-n-range c =
-    found_outside c.args.bytes.now c.args.numbers.now c.args.c c.args.range
-    c.requires.counted c.number-found.ensures c.in-Value.is
-    (within_below c.args.range.low c.args.range.high c.in-Value.n (omega arith))
-    c.refuse.ensures
+    found_outside c.args.input c.args.c c.args.range c.requires.counted c.number.ensures.item c.in_ok-n.was
+    (within_outside c.args.range.low c.args.range.high c.in_ok-n.n c.then-n-range.either) (ap Err c.new.ensures)
 
-pub returns-then-range-n : goal.returns-then-range-n
-returns-then-range-n c =
-    found_outside c.args.bytes.now c.args.numbers.now c.args.c c.args.range
-    c.requires.counted c.number-found.ensures c.in-Value.is
-    (within_above c.args.range.low c.args.range.high c.in-Value.n (omega arith)
-    (omega arith)) c.refuse-then-range-n.ensures
-
-pub overflow_sub-n : goal.overflow_sub-n
-overflow_sub-n c =
-    omega (arith, c.requires.sound.reached)
-
-pub overflow_add-result : goal.overflow_add-result
-overflow_add-result c =
+pub overflow_add-count : goal.overflow_add-count
+overflow_add-count c =
     omega (
       arith,
       c.weight.ensures,
-      found_fits c.args.bytes.now c.args.numbers.now
-          c.args.c c.args.range c.requires.counted c.number-found.ensures c.in-Value.is (2 ^ 64)
-          (omega arith) (omega (arith)),
+      found_fits c.args.input c.args.c c.args.range c.requires.counted c.number.ensures.item c.in_ok-n.was
+          (omega arith) c.number.ensures.room,
     )
 
-pub returns-in-Refused : goal.returns-in-Refused
-returns-in-Refused c =
-    found_refused c.args.bytes.now c.args.numbers.now c.args.c c.args.range
-    c.requires.counted c.number-found.ensures c.in-Refused.is
-
-pub returns-else-range-n : goal.returns-else-range-n
-returns-else-range-n c =
-    found_inside c.args.bytes.now c.args.numbers.now c.args.c c.args.range
-    c.requires.counted c.number-found.ensures c.in-Value.is
-    (within_inside c.args.range.low c.args.range.high c.in-Value.n (omega arith)
-    (omega arith)) (omega (arith, c.weight.ensures))
+pub returns : goal.returns
+returns c =
+    found_inside c.args.input c.args.c c.args.range c.requires.counted c.number.ensures.item c.in_ok-n.was
+    (within_inside c.args.range.low c.args.range.high c.in_ok-n.n (omega arith) (omega arith)) (omega (arith, c.weight.ensures))

@@ -1,24 +1,21 @@
--- `sheet::start::walk_bytes` meets its contract: the magic, and the walk behind it.
-use Rattle.leb128.specs.Format.{same}
-use Rattle.sheet.proofs.laws.WalkStarts.{too_short, opens_not, bytes_walked}
-use Rattle.sheet.specs.Limits.{magic_bytes}
-use Rattle.sheet.specs.inside.Cursor.{walked}
-use lib.ListN.{take}
-use mathlib.Core.Path.{sym, ◌∙◌, ap}
+-- `sheet::start::walk_bytes` meets its contract: the magic is looked at first.
+use mathlib.Core.Path.{◌∙◌}
 use native.Mathlib.Omega.{arith}
+use Rattle.sheet.proofs.laws.WalkStarts.{magic_tested, too_short, opens_not, bytes_walked}
 use Rattle.sheet.proofs.start.walk_bytes.Goals as goal
 
 pub returns-then-bytes-lt-MAGIC_BYTES : goal.returns-then-bytes-lt-MAGIC_BYTES
 returns-then-bytes-lt-MAGIC_BYTES c =
-    ap walked c.refuse.ensures ∙ too_short c.args.format c.args.bytes.now (omega arith)
+    rw c.new.ensures (too_short c.args.format c.args.bytes.now (omega arith))
 
-pub returns-then-not-opens : goal.returns-then-not-opens
-returns-then-not-opens c =
-    ap walked c.refuse-then-not-opens.ensures ∙ opens_not c.args.format c.args.bytes.now (omega arith)
-    (sym (c.opens.ensures ∙ ap (same (take magic_bytes c.args.bytes.now))
-    c.magic.ensures) ∙ c.if-not-opens.true)
+pub returns-then-not-starts_with : goal.returns-then-not-starts_with
+returns-then-not-starts_with c =
+    rw c.new-then-not-starts_with.ensures
+    (opens_not c.args.format c.args.bytes.now c.if-bytes-lt-MAGIC_BYTES.false
+    (magic_tested c.args.format c.args.bytes.now (rw c.magic.ensures at c.starts_with.ensures.value) ∙ c.if-not-starts_with.true))
 
 pub returns : goal.returns
 returns c =
-    bytes_walked c.args.format c.args.bytes.now (omega arith) _ _
-    (sym (c.opens.ensures ∙ ap (same (take magic_bytes c.args.bytes.now)) c.magic.ensures) ∙ c.if-not-opens.false) c.walk.ensures
+    bytes_walked c.args.format c.args.bytes _ c.if-bytes-lt-MAGIC_BYTES.false
+    (magic_tested c.args.format c.args.bytes.now (rw c.magic.ensures at c.starts_with.ensures.value) ∙ c.if-not-starts_with.false)
+    c.walk.ensures

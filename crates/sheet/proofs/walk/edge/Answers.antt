@@ -1,49 +1,34 @@
--- `sheet::walk::edge` meets its contract: four steps, one behind the other (`Edges`).
-use native.Mathlib.Omega.{arith}
-use Rattle.sheet.proofs.laws.WalkSteps.{limited_value}
-use Rattle.sheet.proofs.laws.Edges.{layer_refused, upper_refused, lower_refused, edge_read}
+-- `sheet::walk::edge` meets its contract: four numbers in a row.
+use Rattle.std.proofs.lemmas.Result.{err_from_is_err_and}
+use Rattle.sheet.proofs.laws.Edges.{layer_refused, upper_refused, lower_refused, kind_refused, edge_read}
 use Rattle.sheet.proofs.walk.edge.Goals as goal
 
-pub returns-in_default : goal.returns-in_default
-returns-in_default c =
-    layer_refused c.args.counts.now c.requires.le_layers.1 c.limited-step.ensures
-    c.in_default.is
+pub returns-in_err-layer : goal.returns-in_err-layer
+returns-in_err-layer c =
+    let p = err_from_is_err_and c.from_residual.result c.from_residual.ensures.1 in
+    rw (p.1, p.2) (layer_refused c.args.counts.now c.limited.ensures c.in_err-layer.was)
 
-pub overflow_sub-below : goal.overflow_sub-below
-overflow_sub-below c =
-    (limited_value c.limited-step.ensures c.in-Value.is).1.0
+pub returns-in_err-behind_upper : goal.returns-in_err-behind_upper
+returns-in_err-behind_upper c =
+    let p = err_from_is_err_and c.from_residual-in_err-behind_upper.result c.from_residual-in_err-behind_upper.ensures.1 in
+    rw (p.1, p.2)
+    (upper_refused c.args.counts.now c.limited.ensures c.in_ok-layer.was c.limited-2.ensures c.in_err-behind_upper.was)
 
-pub bounds-counts-below : goal.bounds-counts-below
-bounds-counts-below c =
-    omega (arith, c.requires.le_layers, limited_value c.limited-step.ensures c.in-Value.is)
+pub returns-in_err-behind_lower : goal.returns-in_err-behind_lower
+returns-in_err-behind_lower c =
+    let p = err_from_is_err_and c.from_residual-in_err-behind_lower.result c.from_residual-in_err-behind_lower.ensures.1 in
+    rw (p.1, p.2)
+    (lower_refused c.args.counts.now c.limited.ensures c.in_ok-layer.was c.limited-2.ensures c.in_ok-behind_upper.was
+    c.limited-3.ensures c.in_err-behind_lower.was)
 
-pub limited-upper-requires : goal.limited-upper-requires
-limited-upper-requires c =
-    (limited_value c.limited-step.ensures c.in-Value.is).0
-
-pub returns-in_default-upper : goal.returns-in_default-upper
-returns-in_default-upper c =
-    upper_refused c.args.counts.now c.requires.le_layers.1 c.limited-step.ensures c.in-Value.is
-    c.limited-upper.ensures c.in_default-upper.is
-
-pub bounds-counts-below-2 : goal.bounds-counts-below-2
-bounds-counts-below-2 c =
-    omega (arith, c.requires.le_layers, limited_value c.limited-step.ensures c.in-Value.is)
-
-pub limited-lower-requires : goal.limited-lower-requires
-limited-lower-requires c =
-    (limited_value c.limited-upper.ensures c.in-Value-upper.is).0
-
-pub returns-in_default-lower : goal.returns-in_default-lower
-returns-in_default-lower c =
-    lower_refused c.args.counts.now c.requires.le_layers.1 c.limited-step.ensures c.in-Value.is c.limited-upper.ensures
-    c.in-Value-upper.is c.limited-lower.ensures c.in_default-lower.is
-
-pub limited-requires : goal.limited-requires
-limited-requires c =
-    (limited_value c.limited-lower.ensures c.in-Value-lower.is).0
+pub returns-in_err-behind_kind : goal.returns-in_err-behind_kind
+returns-in_err-behind_kind c =
+    let p = err_from_is_err_and c.from_residual-in_err-behind_kind.result c.from_residual-in_err-behind_kind.ensures.1 in
+    rw (p.1, p.2)
+    (kind_refused c.args.counts.now c.limited.ensures c.in_ok-layer.was c.limited-2.ensures c.in_ok-behind_upper.was
+    c.limited-3.ensures c.in_ok-behind_lower.was c.limited-4.ensures c.in_err-behind_kind.was)
 
 pub returns : goal.returns
 returns c =
-    edge_read c.args.counts.now c.requires.le_layers.1 c.limited-step.ensures c.in-Value.is c.limited-upper.ensures
-    c.in-Value-upper.is c.limited-lower.ensures c.in-Value-lower.is c.limited.ensures
+    edge_read c.args.counts.now c.limited.ensures c.in_ok-layer.was c.limited-2.ensures c.in_ok-behind_upper.was
+    c.limited-3.ensures c.in_ok-behind_lower.was c.limited-4.ensures c.in_ok-behind_kind.was

@@ -1,53 +1,32 @@
--- `sheet::walk::walk` meets its contract: the parts of the sheet, one behind the other (`Sheet`).
+-- `sheet::walk::walk` meets its contract: where a part is refused the sheet is, and the edges end it.
+use Rattle.std.proofs.lemmas.Result.{err_from_is_err_and}
 use native.Mathlib.Omega.{arith}
-use Rattle.sheet.proofs.laws.WalkSteps.{limited_value}
-use Rattle.sheet.proofs.laws.Sheet.{layers_value, width_refused, count_refused, layers_refused, total_refused, sheet_walked}
+use Rattle.std.proofs.lemmas.Grind.{common_steps}
+use Rattle.sheet.proofs.laws.Sheet.{width_refused, count_refused, layers_refused, total_refused, sheet_walked}
 use Rattle.sheet.proofs.walk.walk.Goals as goal
 
-pub returns-in_default : goal.returns-in_default
-returns-in_default c =
-    width_refused c.limited-width.ensures c.in_default.is
+pub returns-in_err-behind_width : goal.returns-in_err-behind_width
+returns-in_err-behind_width c =
+    let p = err_from_is_err_and c.from_residual.result c.from_residual.ensures.1 in
+    rw (p.1, p.2) (width_refused c.limited.ensures c.in_err-behind_width.was)
 
-pub limited-count-requires : goal.limited-count-requires
-limited-count-requires c =
-    (limited_value c.limited-width.ensures c.in-Value.is).0
+pub returns-in_err-n : goal.returns-in_err-n
+returns-in_err-n c =
+    let p = err_from_is_err_and c.from_residual-in_err-n.result c.from_residual-in_err-n.ensures.1 in
+    rw (p.1, p.2) (count_refused c.limited.ensures c.in_ok-behind_width.was c.limited-2.ensures c.in_err-n.was)
 
-pub returns-in_default-count : goal.returns-in_default-count
-returns-in_default-count c =
-    count_refused c.limited-width.ensures c.in-Value.is c.limited-count.ensures c.in_default-count.is
+pub returns-in_err-behind_layers : goal.returns-in_err-behind_layers
+returns-in_err-behind_layers c =
+    let p = err_from_is_err_and c.from_residual-in_err-behind_layers.result c.from_residual-in_err-behind_layers.ensures.1 in
+    rw (p.1, p.2) (layers_refused c.limited.ensures c.in_ok-behind_width.was c.limited-2.ensures c.in_ok-n.was (grind (arith, common_steps)) c.layers.ensures c.in_err-behind_layers.was)
 
-pub layers-last-requires : goal.layers-last-requires
-layers-last-requires c =
-    record {
-      counted = (limited_value c.limited-count.ensures c.in-Value-count.is).0;
-      n_in_bounds = (limited_value c.limited-count.ensures c.in-Value-count.is).1.1;
-    }
-
-pub returns-in_default-last : goal.returns-in_default-last
-returns-in_default-last c =
-    layers_refused c.limited-width.ensures c.in-Value.is c.limited-count.ensures c.in-Value-count.is
-    c.layers-last.ensures c.in_default-last.is
-
-pub limited-total-requires : goal.limited-total-requires
-limited-total-requires c =
-    layers_value c.layers-last.ensures c.in-Value-last.is
-
-pub returns-in_default-total : goal.returns-in_default-total
-returns-in_default-total c =
-    total_refused c.limited-width.ensures c.in-Value.is c.limited-count.ensures c.in-Value-count.is c.layers-last.ensures
-    c.in-Value-last.is c.limited-total.ensures c.in_default-total.is
-
-pub edges-requires : goal.edges-requires
-edges-requires c =
-    let count =
-    (limited_value c.limited-count.ensures
-    c.in-Value-count.is).1 in
-    record {
-      counted = (limited_value c.limited-total.ensures c.in-Value-total.is).0;
-      le_layers = (count.0, omega (arith, count.1, c.layers-last.auto.counts));
-    }
+pub returns-in_err-m : goal.returns-in_err-m
+returns-in_err-m c =
+    let p = err_from_is_err_and c.from_residual-in_err-m.result c.from_residual-in_err-m.ensures.1 in
+    rw (p.1, p.2) (total_refused c.limited.ensures c.in_ok-behind_width.was c.limited-2.ensures c.in_ok-n.was (grind (arith, common_steps)) c.layers.ensures
+    c.in_ok-behind_layers.was c.limited-3.ensures c.in_err-m.was)
 
 pub returns : goal.returns
 returns c =
-    sheet_walked c.limited-width.ensures c.in-Value.is c.limited-count.ensures c.in-Value-count.is c.layers-last.ensures
-    c.in-Value-last.is c.limited-total.ensures c.in-Value-total.is c.edges.ensures
+    sheet_walked c.limited.ensures c.in_ok-behind_width.was c.limited-2.ensures c.in_ok-n.was (grind (arith, common_steps)) c.layers.ensures
+    c.in_ok-behind_layers.was c.limited-3.ensures c.in_ok-m.was c.edges.ensures
