@@ -1,6 +1,8 @@
 // Answers and slices as text on the standard output.
 use engine::Narrowest;
 use leb128::{Refusal, Unplaced};
+use std::fmt;
+use std::fmt::Write;
 
 // The standard output.
 const STANDARD_OUTPUT: i32 = 1;
@@ -10,89 +12,65 @@ pub fn text(text: &[u8]) {
     io::write_all(STANDARD_OUTPUT, text);
 }
 
-// Prints a number in decimal digits.
-fn decimal(n: usize) {
-    io::print_decimal(STANDARD_OUTPUT, n as u64);
-}
+// The standard output, for what is printed by `write!`.
+#[derive(Drop)]
+struct Output;
 
-// Prints a refusal.
-fn refusal(r: Refusal) {
-    text(b"refused ");
-    decimal(r.number as usize);
-    text(b" at ");
-    decimal(r.offset);
+impl fmt::Write for Output {
+    fn write_str(&mut self, s: &str) -> fmt::Result {
+        text(s.as_bytes());
+        Ok(())
+    }
 }
 
 // Prints the answer of a reader or a writer.
 pub fn answer(answer: Result<usize, Refusal>) {
-    match answer {
-        Ok(count) => {
-            text(b"done ");
-            decimal(count);
-        }
-        Err(r) => refusal(r),
-    }
-    text(b":");
+    let _ = match answer {
+        Ok(count) => write!(Output, "done {count}:"),
+        Err(refusal) => write!(Output, "{refusal}:"),
+    };
 }
 
 // Prints the answer of the number reader.
 pub fn found(found: Result<(u32, usize), Refusal>) {
-    match found {
-        Ok((n, next)) => {
-            text(b"value ");
-            decimal(n as usize);
-            text(b" next ");
-            decimal(next);
-        }
-        Err(r) => refusal(r),
-    }
+    let _ = match found {
+        Ok((n, next)) => write!(Output, "value {n} next {next}"),
+        Err(refusal) => write!(Output, "{refusal}"),
+    };
 }
 
 // Prints the answer of the number writer.
 pub fn placed(placed: Result<usize, Unplaced>) {
-    match placed {
-        Ok(next) => {
-            text(b"next ");
-            decimal(next);
-        }
-        Err(Unplaced::NoForm) => text(b"no form"),
-        Err(Unplaced::NoRoom) => text(b"no room"),
-    }
-    text(b":");
+    let _ = match placed {
+        Ok(next) => write!(Output, "next {next}:"),
+        Err(Unplaced::NoForm) => write!(Output, "no form:"),
+        Err(Unplaced::NoRoom) => write!(Output, "no room:"),
+    };
 }
 
 // Prints the answer of the checker.
 pub fn verdict(verdict: Result<bool, Refusal>) {
-    match verdict {
-        Ok(true) => text(b"yes"),
-        Ok(false) => text(b"no"),
-        Err(r) => refusal(r),
-    }
+    let _ = match verdict {
+        Ok(true) => write!(Output, "yes"),
+        Ok(false) => write!(Output, "no"),
+        Err(refusal) => write!(Output, "{refusal}"),
+    };
 }
 
 // Prints the answer of the engine.
 pub fn drawing(drawing: Result<u32, Refusal>) {
-    match drawing {
-        Ok(total) => {
-            text(b"total ");
-            decimal(total as usize);
-        }
-        Err(r) => refusal(r),
-    }
-    text(b":");
+    let _ = match drawing {
+        Ok(total) => write!(Output, "total {total}:"),
+        Err(refusal) => write!(Output, "{refusal}:"),
+    };
 }
 
 // Prints the minimum width, and the total at it.
 pub fn minimum(minimum: Result<Narrowest, Refusal>) {
-    match minimum {
-        Ok(n) => {
-            text(b"narrowest ");
-            decimal(n.width as usize);
-            text(b" ");
-            decimal(n.total as usize);
-        }
-        Err(r) => refusal(r),
-    }
+    let _ = match minimum {
+        Ok(Narrowest { width, total }) => write!(Output, "narrowest {width} {total}"),
+        Err(refusal) => write!(Output, "{refusal}"),
+    };
 }
 
 // A number that a list of them is printed with.
