@@ -7,6 +7,7 @@ ghost use Rattle.difference.specs.inside.Steps.{Stepped, Swept, Ran};
 
 use crate::Stuck;
 use crate::raise::raise_arc;
+use network::clear;
 
 // One pass over the arcs, back from the last or on from the first, and whether a value rose; an arc that is stuck ends it.
 fn along<const BACK: bool>(arcs: &[u32], count: usize, values: &mut [u32]) -> Result<bool, Stuck>
@@ -40,7 +41,7 @@ pub fn run(arcs: &[u32], count: usize, values: &mut [u32]) -> Result<(), Stuck>
 {
     let swept = sweep(arcs, count, values);
     if swept.is_err() {
-        values.fill(0);
+        clear(values);
     }
     swept
 }
@@ -50,7 +51,7 @@ fn sweep(arcs: &[u32], count: usize, values: &mut [u32]) -> Result<(), Stuck>
     requires { WellFormed (net arcs.now count) (length values.old) }
     ensures { Swept (net arcs.now count) (length values.old) values.new result }
 {
-    values.fill(0);
+    clear(values);
     for k in 0..values.len() {
         if !pass(arcs, count, k % 2 == 1, values)? {
             return Ok(());

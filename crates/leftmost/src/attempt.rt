@@ -9,6 +9,7 @@ ghost use Rattle.leftmost.specs.inside.Optimal.{Left};
 use crate::optimal::optimal;
 use circulation::inside::finish;
 use guess::inside::guess;
+use network::clear;
 
 // Whether a guess from the potentials in nodes is the solution; then it is left, with potentials relative to ground's, and 0 in
 // the other numbers of the nodes and in room. Nothing stands behind the last node.
@@ -22,6 +23,6 @@ pub fn attempt(arcs: &[u32], flows: &mut [u32], nodes: &mut [u32], room: &mut [u
         return false;
     }
     finish(nodes);
-    room.fill(0);
+    clear(room);
     true
 }

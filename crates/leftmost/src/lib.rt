@@ -16,8 +16,8 @@ use crate::attempt::attempt;
 use crate::start::{circulate, set_potentials};
 use circulation::takes;
 use difference::least;
-use network::Unsolved;
 use network::nodes::NODE_STRIDE;
+use network::{Unsolved, clear};
 
 // Flows that balance, and the leftmost potentials of least cost, of as many arcs as there are flows. Each node has NODE_STRIDE
 // numbers, its potential first, and ground is the last node. room is to work in: it has a number or more for each node, and
@@ -39,7 +39,7 @@ pub fn solve(
         return Err(Unsolved::Malformed);
     }
     if least(arcs, flows.len(), count, room).is_err() {
-        room.fill(0);
+        clear(room);
         return Err(Unsolved::NoSolution);
     }
     set_potentials(&room[..count], nodes);

@@ -7,6 +7,7 @@ ghost use Rattle.leftmost.specs.Solutions.{Finding, Means, SomeFeasible, Taken};
 ghost use Rattle.leftmost.specs.inside.Potentials.{potentials_to};
 
 use difference::least;
+use network::clear;
 use network::nodes::NODE_STRIDE;
 
 // Solves a network that has feasible potentials, whatever the slices hold.
@@ -21,7 +22,7 @@ pub fn circulate(arcs: &[u32], flows: &mut [u32], nodes: &mut [u32], room: &mut 
     let _ = least(arcs, flows.len(), count, room);
     set_potentials(&room[..count], nodes);
     let _ = circulation::solve(arcs, flows, nodes);
-    room.fill(0);
+    clear(room);
 }
 
 // The potentials to start from, in the nodes.
