@@ -102,19 +102,15 @@ struct Range {
 #[derive(Clone, Copy)]
 struct Plain;
 
-// What comes next in a coordinate file. So many layers are to come, and so many nodes may yet be counted (room).
+// What comes next in a coordinate file.
 #[derive(Clone, Copy)]
 enum Awaited {
     // The count of layers.
     Layers,
-    // A layer's count of nodes; the end, if no layer is to come.
-    Layer {
-        layers: u32,
-        room: u32,
-    },
     // The coordinate of one of the nodes of this layer that are to come: it stands at low or right of it, and its bytes hold what it
-    // lies above the base.
-    Node {
+    // lies above the base. If none is to come, a layer's count of nodes; the end, if no layer is to come. So many nodes may yet be
+    // counted (room). One variant for both: with one each, a file is written by half as many instructions again.
+    Nodes {
         layers: u32,
         room: u32,
         nodes: u32,

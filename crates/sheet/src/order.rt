@@ -18,7 +18,11 @@ impl Awaited {
         ensures { result ≡ more-awaited self }
     {
         match self {
-            Awaited::Layer { layers, .. } => 0 < layers,
+            Awaited::Nodes {
+                layers,
+                nodes: 0,
+                ..
+            } => 0 < layers,
             _ => true,
         }
     }
@@ -33,12 +37,12 @@ impl Awaited {
                 low: 1,
                 high: MAX_LAYERS,
             },
-            Awaited::Layer { room, .. } => Range {
+            Awaited::Nodes { nodes: 0, room, .. } => Range {
                 base: 0,
                 low: 1,
                 high: MAX_LAYER_NODES.min(room),
             },
-            Awaited::Node { base, low, .. } => Range {
+            Awaited::Nodes { base, low, .. } => Range {
                 base,
                 low,
                 high: MAX_COORDINATE,
@@ -53,34 +57,37 @@ impl Awaited {
         ensures { result ≡ state-behind self n }
     {
         match self {
-            Awaited::Layers => Awaited::Layer {
+            Awaited::Layers => Awaited::Nodes {
                 layers: n,
                 room: MAX_NODES,
+                nodes: 0,
+                base: 0,
+                low: 0,
             },
-            Awaited::Layer { layers, room } => Awaited::Node {
+            Awaited::Nodes {
+                layers,
+                room,
+                nodes: 0,
+                ..
+            } => Awaited::Nodes {
                 layers: layers - 1,
                 room: room - n,
                 nodes: n,
                 base: 0,
                 low: 0,
             },
-            Awaited::Node {
+            Awaited::Nodes {
                 layers,
                 room,
                 nodes,
                 ..
-            } => {
-                if nodes <= 1 {
-                    return Awaited::Layer { layers, room };
-                }
-                Awaited::Node {
-                    layers,
-                    room,
-                    nodes: nodes - 1,
-                    base: n,
-                    low: n + 1,
-                }
-            }
+            } => Awaited::Nodes {
+                layers,
+                room,
+                nodes: nodes - 1,
+                base: n,
+                low: n + 1,
+            },
         }
     }
 }

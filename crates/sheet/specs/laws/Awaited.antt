@@ -4,7 +4,7 @@ use mathlib.Core.Path.{◌≡◌, refl, ◌∙◌}
 use mathlib.Core.Bool.{true, false}
 use mathlib.Core.Logic.{⊎_elim}
 use native.Mathlib.Omega.{arith}
-use borrow.Author.Tests.{ltb-false, lt-leb}
+use borrow.Author.Tests.{ltb-false, ne_eqb}
 use Rattle.leb128.specs.Grammar.{Form, Grammar, plain, within}
 use Rattle.leb128.specs.Grammar.Grammar.{number, done}
 use Rattle.leb128.specs.laws.Cases.{test}
@@ -12,7 +12,7 @@ use Rattle.sheet.specs.Limits.{max_nodes, max_coordinate, max_coordinate_numbers
 use Rattle.sheet.specs.inside.Cursor.{Sound}
 use Rattle.sheet.specs.inside.Awaited.{nodes_from, layers_from, rest, Steady, more, range_of, behind, InRange}
 use Rattle.sheet.specs.declared.Awaited.{Awaited}
-use Rattle.sheet.specs.declared.Awaited.TheVariants.{Layers, Layer, Node}
+use Rattle.sheet.specs.declared.Awaited.TheVariants.{Layers, Nodes}
 use Rattle.leb128.specs.laws.EachNumber.{within_limits}
 use Rattle.sheet.specs.inside.Order.{Next, AwaitedLeft}
 use Rattle.sheet.specs.declared.Range.{Range}
@@ -31,8 +31,7 @@ base_of range = range.base
 -- how many numbers may yet come
 abbrev pub left : Awaited → ℕ
 left Layers = max_coordinate_numbers
-left (Layer layers room) = layers + room
-left (Node layers room nodes base low) = layers + nodes + room
+left (Nodes layers room nodes base low) = layers + nodes + room
 
 -- the grammar says next what is awaited, and goes on with what is awaited then
 pub record Expects (s : Awaited) : Type 0 where
@@ -54,11 +53,11 @@ expects Layers steady h =
       then = λ n ok. refl;
       sound = record { reached = omega arith; small = omega arith };
       high = omega arith;
-      steady = λ n ok. tt;
+      steady = λ n ok. (omega arith, omega arith);
       fewer = λ n ok. omega (arith, ok);
     }
-expects (Layer zero room) steady h = let z : ◌≡◌ {A = ℕ} 0 1 = cc in absurd (omega arith)
-expects (Layer (suc l) room) steady h =
+expects (Nodes zero room zero base low) steady h = let z : ◌≡◌ {A = ℕ} 0 1 = cc in absurd (omega arith)
+expects (Nodes (suc l) room zero base low) steady h =
     let e : suc l - 1 ≡ l = omega arith in
     record {
       next = λ n. number plain (within 0 max_coordinate) λ place. nodes_from (n - 1) place (place + 1) (layers_from l (room - n));
@@ -66,40 +65,36 @@ expects (Layer (suc l) room) steady h =
       then = λ n ok. rw e (layer_from n (layers_from l (room - n)) ok.0);
       sound = record { reached = omega arith; small = omega arith };
       high = omega arith;
-      steady = λ n ok. (ok.0, omega arith, omega arith);
+      steady = λ n ok. (omega arith, omega arith);
       fewer = λ n ok. omega (arith, ok);
     }
-expects (Node layers room zero base low) steady h = absurd (omega (arith, steady))
-expects (Node layers room (suc zero) base low) steady h =
+expects (Nodes layers room (suc m) base low) steady h =
+    let some : suc m ≡ 0 → ⊥ = λ z. omega arith in
+    let f = ne_eqb (suc m) 0 some in
+    let e : suc m - 1 ≡ m = omega arith in
     record {
-      next = λ place. nodes_from 0 place (place + 1) (layers_from layers room);
-      is = refl;
-      then = λ place ok. refl;
-      sound = record { reached = steady.1; small = omega (arith, steady) };
-      high = omega arith;
-      steady = λ n ok. tt;
-      fewer = λ n ok. omega arith;
-    }
-expects (Node layers room (suc (suc m)) base low) steady h =
-    let e : suc (suc m) - 1 ≡ suc m = omega arith in
-    let f = lt-leb (suc (suc m)) 1 (omega arith) in
-    record {
-      next = λ place. nodes_from (suc m) place (place + 1) (layers_from layers room);
-      is = refl;
+      next = λ place. nodes_from m place (place + 1) (layers_from layers room);
+      is = rw f;
       then = λ place ok. rw (f, e);
-      sound = record { reached = steady.1; small = omega (arith, steady) };
-      high = omega arith;
-      steady = λ n ok. rw f (omega arith, omega arith, ok.1);
+      sound = rw f (record { reached = steady.0; small = omega (arith, steady) });
+      high = rw f (omega arith);
+      steady = λ n ok. rw f (omega arith, rw f at ok.1);
       fewer = λ n ok. rw f (omega arith);
     }
 
+-- true is not false
+true_not : true ≡ false → ⊥
+true_not e = let z : ◌≡◌ {A = ℕ} 0 1 = cc in omega arith
+
 -- where none does, the grammar is at its end
 pub at_end : (s : Awaited) → more s ≡ false → rest s ≡ done
-unfolding rest layers_from
-at_end Layers h = let z : ◌≡◌ {A = ℕ} 0 1 = cc in absurd (omega arith)
-at_end (Layer zero room) h = refl
-at_end (Layer (suc l) room) h = absurd (omega (arith, ltb-false 0 (suc l) h))
-at_end (Node layers room nodes base low) h = let z : ◌≡◌ {A = ℕ} 0 1 = cc in absurd (omega arith)
+unfolding rest nodes_from layers_from
+at_end Layers h = absurd (true_not h)
+at_end (Nodes zero room zero base low) h = refl
+at_end (Nodes (suc l) room zero base low) h = absurd (omega (arith, ltb-false 0 (suc l) h))
+at_end (Nodes layers room (suc m) base low) h =
+    let some : suc m ≡ 0 → ⊥ = λ z. omega arith in
+    absurd (true_not (rw (ne_eqb (suc m) 0 some) at h))
 
 -- so where it is not, a number comes next
 pub not_end : (s : Awaited) → (rest s ≡ done → ⊥) → more s ≡ true
