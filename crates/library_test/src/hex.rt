@@ -7,7 +7,9 @@ pub fn is_digit(byte: u8) -> bool {
 }
 
 // The value of a digit; 0 for any other byte.
-fn digit(byte: u8) -> u32 {
+fn digit(byte: u8) -> u32
+    ensures { result < 16 }
+{
     match byte {
         b'0'..=b'9' => u32::from(byte - b'0'),
         b'a'..=b'f' => u32::from(byte - b'a' + 10),

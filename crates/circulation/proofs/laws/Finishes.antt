@@ -1,17 +1,53 @@
--- What the last step leaves: each potential relative to ground's, and 0 in the other numbers.
-use Rattle.network.specs.Net.{at}
+-- What the last step takes and leaves: no node is far left of ground, each potential is relative to ground's, and the other numbers are 0.
+use Rattle.network.specs.Net.{at, Net, head}
+use Rattle.network.specs.Packed.{kink_zero}
 use Rattle.circulation.specs.laws.Columns.{column_length}
 use Rattle.network.specs.Nodes.{column, potentials, size, node_stride, potential_zero}
+use Rattle.network.specs.WellFormed.{WellFormed}
+use Rattle.circulation.specs.Input.{Feasible, Hangs, Rooted}
 use Rattle.circulation.specs.inside.Stores.{Stored, Apart}
 use Rattle.circulation.specs.inside.Finish.{ground_of, Zeroed}
 use mathlib.Core.Path.{◌≡◌, ap, ◌∙◌}
+use mathlib.Core.Logic.{⊎_elim}
 use mathlib.Core.List.{List}
-use Prim.Native.Nat.{ℕ, ◌+◌, ◌≤◌, ◌<◌}
+use Prim.Native.Nat.{ℕ, zero, suc, ◌+◌, ◌-◌, ◌*◌, ◌≤◌, ◌<◌}
 use native.Mathlib.Decide.{ℕ_discrete}
 use native.Mathlib.Omega.{arith}
 use borrow.Author.Count.{below_more}
 use lib.ListN.{length}
 use lib.Seq.{get_or-set_same, get_or-set_other}
+
+module _ (N : Net) (n : ℕ) (p : ℕ → ℕ) (wf : WellFormed N n) (rooted : Rooted N n) (met : Feasible N p) where
+  -- a node hangs on ground by at most as many arcs as its number and one, each 2^16 long at most
+  near_to : (k v : ℕ) → v < k → v < n → p (n - 1) ≤ p v + kink_zero * (v + 1)
+  near_to zero v l w = absurd (omega arith)
+  near_to (suc k) v l w = elim (ℕ_discrete v (n - 1)) [
+    | yes e ↦ omega (arith, ap p e)
+    | no ne ↦ step (rooted.hangs v (omega arith)) (λ u b. near_to k u (omega arith) (omega arith))
+  ]
+    where
+      step : Hangs N (n - 1) v → ((u : ℕ) → u < v → p (n - 1) ≤ p u + kink_zero * (u + 1)) → p (n - 1) ≤ p v + kink_zero * (v + 1)
+      step h before = ⊎_elim
+          (λ c. omega (
+            arith,
+            ap p c,
+            ap p h.by.from,
+            met.not_right h.arc h.arc_in h.by.hard,
+            (wf.arc_in h.arc h.arc_in).kink_high,
+          ))
+          (λ c. omega (
+            arith,
+            c,
+            before (head N h.arc) c,
+            ap p h.by.from,
+            met.not_right h.arc h.arc_in h.by.hard,
+            (wf.arc_in h.arc h.arc_in).kink_high,
+          ))
+          h.by.to
+
+  -- no node is more than 2^28 left of ground
+  pub near_ground : (v : ℕ) → v < n → p (n - 1) ≤ p v + potential_zero
+  near_ground v l = omega (arith, near_to (suc v) v (omega arith) l, wf.nodes)
 
 -- the number stored
 pub stored_here : {k v a : ℕ} {old new : List ℕ} → Stored k v a old new → v < size old → at (column k new) v ≡ a
