@@ -109,7 +109,7 @@ enum Awaited {
     Layers,
     // The coordinate of one of the nodes of this layer that are to come: it stands at low or right of it, and its bytes hold what it
     // lies above the base. If none is to come, a layer's count of nodes; the end, if no layer is to come. So many nodes may yet be
-    // counted (room). One variant for both: with one each, a file is written by half as many instructions again.
+    // counted (room). One variant for both: with one each, writing a file takes a quarter more instructions.
     Nodes {
         layers: u32,
         room: u32,
