@@ -43,7 +43,7 @@ pub fn put_numbers<O: Order>(numbers: &[u16], bytes: &mut [u8], start: O)
     for number in numbers {
         let base = s.base();
         let n = u32::from(*number);
-        at = put(bytes, at, n - base);
         s = s.behind(n);
+        at = put(bytes, at, n - base);
     }
 }
